@@ -1,0 +1,11 @@
+//! The bottom of the tree log: blocks, keys, hashes, names and the grammar of all that stands in a block.
+//!
+//! Contracts of every crate above cite this crate's `specs/`: what bytes spell which superblock, leaf, node or
+//! item, each as a relation and as a function to the value or the first fault.
+#![tactic(auto)]
+
+mod fault;
+mod key;
+
+pub use fault::{BlockFault, ItemFault, OutOfMemory, RootFault, SuperFault};
+pub use key::{Addr, Block, Ino, Key, Marks, SubId, Want};
