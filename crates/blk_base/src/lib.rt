@@ -4,8 +4,13 @@
 //! item, each as a relation and as a function to the value or the first fault.
 #![tactic(auto)]
 
+mod crc;
+mod crc_tables;
 mod fault;
 mod key;
+mod name;
 
+pub use crc::{crc_register, crc_table_law, crc32c, register_append, register_fits};
 pub use fault::{BlockFault, ItemFault, OutOfMemory, RootFault, SuperFault};
 pub use key::{Addr, Block, Ino, Key, Marks, SubId, Want};
+pub use name::{extref_hash, name_hash};
