@@ -1,2 +1,3 @@
 pub mod CrcLemmas
 pub mod CrcTables
+pub mod NameLemmas

@@ -9,8 +9,10 @@ mod crc_tables;
 mod fault;
 mod key;
 mod name;
+mod text;
 
 pub use crc::{crc_register, crc_table_law, crc32c, register_append, register_fits};
 pub use fault::{BlockFault, ItemFault, OutOfMemory, RootFault, SuperFault};
 pub use key::{Addr, Block, Ino, Key, Marks, SubId, Want};
-pub use name::{extref_hash, name_hash};
+pub use name::{Name, extref_hash, is_name, is_name_law, name_hash};
+pub use text::Text;

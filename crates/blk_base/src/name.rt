@@ -1,8 +1,26 @@
-ghost use Rattle.std.specs.Prelude.{◌≡◌, ◌↔◌, IsTrue, IfOk, List, ℕ};
+ghost use Rattle.std.specs.Prelude.{◌≡◌, ◌↔◌, ℕ, IsTrue, IfOk, List, bytes_eq};
+ghost use Rattle.std.specs.Ordering.{nat_cmp};
+ghost use Rattle.std.specs.Cmp.{partial_equiv_from_equiv};
+ghost use Rattle.std.specs.Cmp.Lexicographic.{slice_cmp, nat_list_eq_equiv, nat_list_cmp_total, texts_ties, texts_po};
+ghost use Rattle.std.proofs.Common.{Some, refl};
 ghost use Rattle.blk_base.specs.Crc.{name_hash_of, extref_hash_of};
+ghost use Rattle.blk_base.specs.Name.{IsName, is_name};
 
 use crate::crc::crc_register;
+use crate::fault::OutOfMemory;
 use crate::key::Ino;
+use std::alloc::Global;
+use std::cmp::Ordering;
+use std::marker::Model;
+
+/// The most bytes that a name has.
+const LONGEST: usize = 255;
+
+/// The name by which a directory stands in itself.
+const HERE: &[u8] = b".";
+
+/// The name of the directory above.
+const ABOVE: &[u8] = b"..";
 
 /// The hash of a name in the key of a DIR_ITEM ("DIR_ITEM" of the on-disk format; `btrfs_name_hash` of the kernel).
 pub fn name_hash(name: &[u8]) -> u32
@@ -18,4 +36,104 @@ pub fn extref_hash(parent: Ino, name: &[u8]) -> u32
 {
     let start = (parent.0 & 0xffff_ffff) as u32;
     crc_register(start, name)
+}
+
+/// Whether the bytes may stand as a name in a directory: 1 to 255 bytes, none of them 0 or `/`, and neither `.` nor
+/// `..` ("DIR_ITEM" of the on-disk format; own for the bytes that are refused).
+pub fn is_name(bytes: &[u8]) -> bool
+    ensures { IsTrue result ↔ IsName bytes.now }
+{
+    if bytes.is_empty() || LONGEST < bytes.len() {
+        return false;
+    }
+    if bytes == HERE || bytes == ABOVE {
+        return false;
+    }
+    bytes.iter().all(|byte| *byte != 0 && *byte != b'/')
+}
+
+/// The test of a name is true exactly where the bytes are one (own).
+pub fn is_name_law()
+    ensures { (bytes : List ℕ) → IsTrue (is_name bytes) ↔ IsName bytes }
+{}
+
+/// A name in a directory, seen as its bytes: 1 to 255 of them, none 0 or `/`, and neither `.` nor `..`.
+#[derive(Debug, Drop)]
+pub struct Name {
+    bytes: Vec<u8>,
+}
+
+impl Model for Name {
+    ghost use Rattle.std.specs.Prelude.{ℕ, List};
+    ghost use Rattle.blk_base.specs.Name.{IsName};
+
+    ghost Value = { List ℕ };
+
+    ghost view = { λ name. name.bytes.items };
+
+    ghost invariant = { λ name. IsName name.bytes.items };
+}
+
+impl Name {
+    /// A name of its own with these bytes, which are one by `is_name`. Fails only for want of memory.
+    pub fn new(alloc: Global, bytes: &[u8]) -> Result<Name, OutOfMemory>
+        requires { IsName bytes.now }
+        ensures { IfOk result (λ name. name ≡ bytes.now) }
+    {
+        let bytes = Vec::from_slice(alloc, bytes)?;
+        Ok(Name { bytes })
+    }
+
+    /// The bytes of the name.
+    pub fn as_bytes(&self) -> &[u8]
+        ensures value { result.now ≡ self.now }
+        ensures name { IsName self.now }
+    {
+        self.bytes.as_slice()
+    }
+
+    /// The same name once more. Fails only for want of memory.
+    pub fn copy(&self, alloc: Global) -> Result<Name, OutOfMemory>
+        ensures { IfOk result (λ name. name ≡ self.now) }
+    {
+        Name::new(alloc, self.as_bytes())
+    }
+}
+
+impl PartialEq for Name {
+    ghost eq = { bytes_eq };
+
+    ghost laws = { partial_equiv_from_equiv nat_list_eq_equiv };
+
+    fn eq(&self, other: &Name) -> bool {
+        self.as_bytes() == other.as_bytes()
+    }
+}
+
+impl Eq for Name {
+    ghost laws = { nat_list_eq_equiv };
+}
+
+impl PartialOrd for Name {
+    ghost partial_cmp = { λ one other. Some (slice_cmp nat_cmp one other) };
+
+    ghost laws = { texts_po };
+
+    fn partial_cmp(&self, other: &Name) -> Option<Ordering> {
+        Some(self.cmp(other))
+    }
+}
+
+impl Ord for Name {
+    ghost cmp = { slice_cmp nat_cmp };
+
+    ghost total = { nat_list_cmp_total };
+
+    ghost matches_partial_cmp = { λ one other. refl };
+
+    ghost matches_eq = { texts_ties };
+
+    fn cmp(&self, other: &Name) -> Ordering {
+        self.as_bytes().cmp(other.as_bytes())
+    }
 }

@@ -1,5 +1,4 @@
-use Rattle.std.proofs.Common.{sym, ap, ◌∙◌, arith}
-use Rattle.blk_base.specs.Crc.{register_after}
+use Rattle.std.proofs.Common.{sym, ◌∙◌, arith}
 use Rattle.blk_base.proofs.CrcLemmas.{register_after-split, register_after-next, register_after-end}
 use Rattle.blk_base.proofs.crc.crc_register.Goals as goal
 

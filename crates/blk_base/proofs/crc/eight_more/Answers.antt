@@ -1,4 +1,4 @@
-use Rattle.std.proofs.Common.{◌≡◌, ◌<◌, ◌^◌, bit_xor, ap, ◌∙◌, arith}
+use Rattle.std.proofs.Common.{◌<◌, ◌^◌, bit_xor, ap, ◌∙◌, arith}
 use Rattle.std.proofs.lemmas.Nat.{xor_lt}
 use Rattle.blk_base.proofs.CrcLemmas.{all_below, eight_by_tables}
 use Rattle.blk_base.proofs.crc.eight_more.Goals as goal
