@@ -5,7 +5,9 @@
 #![tactic(auto)]
 
 mod fault;
+mod fields;
 mod key;
 
 pub use fault::{BlockFault, ItemFault, OutOfMemory, RootFault, SuperFault};
+pub use fields::{put_bytes, put_u16, put_u32, put_u64, u16_at, u32_at, u64_at};
 pub use key::{Addr, Block, Ino, Key, Marks, SubId, Want};

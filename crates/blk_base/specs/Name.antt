@@ -1,0 +1,16 @@
+-- Names of files and attributes.
+use Rattle.std.specs.Prelude.{◌≡◌, ◌≢◌, ◌≤◌, ℕ, Bool, ◌&&◌, not, nat_le, ◌==◌, List, [], ◌∷◌, length, slice_index, ◌<◌}
+use Rattle.std.specs.List.{list_all}
+use Rattle.std.specs.Str.{bytes_eq}
+
+-- 1 to 255 bytes without 0 and `/` that aren't `.` or `..`
+pub record IsName (bytes : List ℕ) : Type 0 where
+  pub least : 1 ≤ length bytes
+  pub most : length bytes ≤ 255
+  pub no_zero : (i : ℕ) → i < length bytes → slice_index bytes i ≢ 0
+  pub no_slash : (i : ℕ) → i < length bytes → slice_index bytes i ≢ 47
+  pub not_dot : bytes ≢ 46 ∷ []
+  pub not_dots : bytes ≢ 46 ∷ 46 ∷ []
+
+unfoldable pub is_name : List ℕ → Bool
+is_name bytes = nat_le 1 (length bytes) && nat_le (length bytes) 255 && list_all (λ b. not (b == 0) && not (b == 47)) bytes && not (bytes_eq bytes (46 ∷ [])) && not (bytes_eq bytes (46 ∷ 46 ∷ []))
