@@ -4,13 +4,14 @@ use Rattle.std.proofs.Common.{w64}
 use Rattle.std.specs.Int.{from_le_bytes, to_le_bytes}
 use Rattle.std.proofs.lemmas.Bool.{cases_eq}
 use Rattle.std.proofs.lemmas.Nat.{and_mask, xor_comm, xor_lt, xor_shr, xor_mod}
+use Rattle.std.proofs.lemmas.List.Elements.{All-drop}
 use Rattle.std.proofs.lemmas.List.Sums.{fold-append}
 use Rattle.std.proofs.Math.Nat.{pow-suc, mul_assoc}
 use Rattle.std.proofs.Math.ListN.{drop_of_length-le}
 use Rattle.std.proofs.lemmas.List.{take-append-drop}
 use Rattle.std.proofs.lemmas.Grind.{get_or_default_zero}
 use lib.Bits.{xor_assoc, xor_zero_r, xor_shifted}
-use Rattle.blk_base.specs.Crc.{crc_bit, crc_bits, crc_byte, register_after}
+use Rattle.blk_base.specs.Crc.{crc_bit, crc_bits, crc_byte, register_after, crc32c_of, block_sum, name_hash_of, extref_hash_of}
 
 -- ---- laws of exclusive or
 
@@ -249,3 +250,22 @@ register_after-next start i xs h = rw (add-one, drop-cons xs i 0) refl
 pub register_after-end : (start i : ℕ) (xs : List ℕ) → length xs ≤ i → register_after start (drop i xs) ≡ start
 unfolding register_after
 register_after-end start i xs h = rw (drop_of_length-le xs h) refl
+
+-- ---- sums and hashes have 32 bits
+
+pub crc32c_of-fits : (bytes : List ℕ) → All (λ b. b < 256) bytes → crc32c_of bytes < 2 ^ 32
+unfolding crc32c_of
+crc32c_of-fits bytes h =
+    xor_lt 32 (register_after 0xFFFF_FFFF bytes) 0xFFFF_FFFF (register_after-fits 0xFFFF_FFFF bytes (omega arith) h) (omega arith)
+
+pub block_sum-fits : (bytes : List ℕ) → All (λ b. b < 256) bytes → block_sum bytes < 2 ^ 32
+unfolding block_sum
+block_sum-fits bytes h = crc32c_of-fits (drop 32 bytes) (All-drop (λ b. b < 256) 32 bytes h)
+
+pub name_hash_of-fits : (name : List ℕ) → All (λ b. b < 256) name → name_hash_of name < 2 ^ 32
+unfolding name_hash_of
+name_hash_of-fits name h = register_after-fits 0xFFFF_FFFE name (omega arith) h
+
+pub extref_hash_of-fits : (parent : ℕ) (name : List ℕ) → All (λ b. b < 256) name → extref_hash_of parent name < 2 ^ 32
+unfolding extref_hash_of
+extref_hash_of-fits parent name h = register_after-fits (parent % 2 ^ 32) name (omega arith) h

@@ -1,3 +1,11 @@
+pub mod Bytes
+pub mod Address
+pub mod Keys
 pub mod Crc
 pub mod Name
 pub mod Text
+pub mod Leaf
+pub mod Superblock
+pub mod Items
+pub mod Entries
+pub mod Extents

@@ -1,19 +1,22 @@
--- Names in a directory.
-use Rattle.std.specs.Prelude.{◌≢◌, ℕ, ◌<◌, ◌≤◌, Bool, not, ◌&&◌, nat_eq, nat_lt, List, [], ◌∷◌, length, All, bytes_eq}
+-- Names of files and attributes.
+use Rattle.std.specs.Prelude.{◌≡◌, ◌≢◌, ◌<◌, ◌≤◌, ℕ, Bool, ◌&&◌, not, nat_le, ◌==◌, List, [], ◌∷◌, length, slice_index}
 use Rattle.std.specs.List.{list_all}
+use Rattle.std.specs.Str.{bytes_eq}
 
--- a name: 1 to 255 bytes, none of them 0 or `/`, and neither `.` nor `..` ("DIR_ITEM": name)
+-- a name: 1 to 255 bytes, none of them 0 or `/`, and neither `.` nor `..` ("DIR_ITEM": name; own for the bytes that are refused)
 pub record IsName (bytes : List ℕ) : Type 0 where
-  pub some : 0 < length bytes
-  pub short : length bytes ≤ 255
-  pub plain : All (λ byte. (byte ≢ 0) × (byte ≢ 47)) bytes
-  pub not_here : bytes ≢ 46 ∷ []
-  pub not_above : bytes ≢ 46 ∷ 46 ∷ []
+  pub least : 1 ≤ length bytes
+  pub most : length bytes ≤ 255
+  pub no_zero : (i : ℕ) → i < length bytes → slice_index bytes i ≢ 0
+  pub no_slash : (i : ℕ) → i < length bytes → slice_index bytes i ≢ 47
+  pub not_dot : bytes ≢ 46 ∷ []
+  pub not_dots : bytes ≢ 46 ∷ 46 ∷ []
 
--- the test of it, byte by byte ("DIR_ITEM": name)
+-- the test of it, byte by byte (own)
 unfoldable pub is_name : List ℕ → Bool
 is_name bytes =
-    (nat_lt 0 (length bytes) && nat_lt (length bytes) 256)
-    && list_all (λ byte. not (nat_eq byte 0) && not (nat_eq byte 47)) bytes
+    nat_le 1 (length bytes)
+    && nat_le (length bytes) 255
+    && list_all (λ byte. not (byte == 0) && not (byte == 47)) bytes
     && not (bytes_eq bytes (46 ∷ []))
     && not (bytes_eq bytes (46 ∷ 46 ∷ []))

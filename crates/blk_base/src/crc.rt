@@ -1,5 +1,5 @@
 ghost use Rattle.std.specs.Prelude.{◌≡◌, ℕ, ◌/◌, ◌%◌, ◌^◌, ◌<◌, ◌++◌, List, All, bit_xor};
-ghost use Rattle.blk_base.specs.Crc.{crc_byte, register_after, crc32c_of, name_hash_of, extref_hash_of};
+ghost use Rattle.blk_base.specs.Crc.{crc_byte, register_after, crc32c_of, block_sum, name_hash_of, extref_hash_of};
 
 use crate::crc_tables::advanced;
 
@@ -64,7 +64,27 @@ pub fn register_append()
     ensures { (start : ℕ) (first second : List ℕ) → register_after start (first ++ second) ≡ register_after (register_after start first) second }
 {}
 
-/// The register stays within 32 bits (own).
+/// The register stays within 32 bits, and so do sums and hashes of bytes (own).
 pub fn register_fits()
-    ensures { (start : ℕ) (bytes : List ℕ) → start < 2 ^ 32 → All (λ byte. byte < 256) bytes → register_after start bytes < 2 ^ 32 }
+    ensures register { (start : ℕ) (bytes : List ℕ) → start < 2 ^ 32 → All (λ byte. byte < 256) bytes → register_after start bytes < 2 ^ 32 }
+    ensures sum { (bytes : List ℕ) → All (λ byte. byte < 256) bytes → crc32c_of bytes < 2 ^ 32 }
+    ensures block_sum { (bytes : List ℕ) → All (λ byte. byte < 256) bytes → block_sum bytes < 2 ^ 32 }
+    ensures name_hash { (name : List ℕ) → All (λ byte. byte < 256) name → name_hash_of name < 2 ^ 32 }
+    ensures extref_hash { (parent : ℕ) (name : List ℕ) → All (λ byte. byte < 256) name → extref_hash_of parent name < 2 ^ 32 }
 {}
+
+#[cfg(test)]
+mod tests {
+    use super::*;
+
+    #[test]
+    fn sums_are_the_published_ones(rt: HostRuntime) {
+        assert_eq!(rt; crc32c(b"123456789"), 0xe306_9283);
+        assert_eq!(rt; crc32c(b"hi"), 0xf59d_d9c2);
+        assert_eq!(rt; crc32c(&[0; 32]), 0x8a91_36aa);
+        assert_eq!(rt; crc_register(0, b""), 0);
+        crc_table_law();
+        register_append();
+        register_fits();
+    }
+}

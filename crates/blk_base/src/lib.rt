@@ -7,12 +7,14 @@
 mod crc;
 mod crc_tables;
 mod fault;
+mod fields;
 mod key;
 mod name;
 mod text;
 
 pub use crc::{crc_register, crc_table_law, crc32c, register_append, register_fits};
 pub use fault::{BlockFault, ItemFault, OutOfMemory, RootFault, SuperFault};
+pub use fields::{put_bytes, put_u16, put_u32, put_u64, u16_at, u32_at, u64_at};
 pub use key::{Addr, Block, Ino, Key, Marks, SubId, Want};
 pub use name::{Name, extref_hash, is_name, is_name_law, name_hash};
 pub use text::Text;

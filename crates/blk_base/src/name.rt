@@ -137,3 +137,51 @@ impl Ord for Name {
         self.as_bytes().cmp(other.as_bytes())
     }
 }
+
+#[cfg(test)]
+mod tests {
+    use super::*;
+    use std::test::Fail;
+
+    #[test]
+    fn hashes_are_those_of_btrfs(rt: HostRuntime) {
+        assert_eq!(rt; name_hash(b"a"), 0xcc44_3fcc);
+        assert_eq!(rt; name_hash(b"default"), 2_378_154_706);
+        assert_eq!(rt; extref_hash(Ino(256), b"a"), 0x93ad_1060);
+    }
+
+    #[test]
+    fn tells_names(rt: HostRuntime) {
+        let long = [b'x'; 256];
+        let table: [(&[u8], bool); 10] = [
+            (b"", false),
+            (b".", false),
+            (b"..", false),
+            (b"a", true),
+            (b"...", true),
+            (b"a.", true),
+            (b"a/b", false),
+            (b"a\0", false),
+            (&long[..255], true),
+            (&long, false),
+        ];
+        for (bytes, want) in table {
+            assert_eq!(rt; is_name(bytes), want, "at {bytes:?}");
+        }
+        is_name_law();
+    }
+
+    #[test]
+    fn keeps_and_orders_names(rt: HostRuntime) -> Result<(), Fail> {
+        let (a, b): (&[u8], &[u8]) = (b"a", b"ab");
+        assert!(rt; is_name(a));
+        assert!(rt; is_name(b));
+        let first = Name::new(rt.alloc(), a)?;
+        let second = Name::new(rt.alloc(), b)?;
+        assert_eq!(rt; second.as_bytes(), b);
+        assert!(rt; first.copy(rt.alloc())? == first);
+        assert!(rt; first != second);
+        assert!(rt; first < second);
+        Ok(())
+    }
+}

@@ -112,3 +112,23 @@ impl PartialEq for Text {
 impl Eq for Text {
     ghost laws = { nat_list_eq_equiv };
 }
+
+#[cfg(test)]
+mod tests {
+    use super::*;
+    use std::test::Fail;
+
+    #[test]
+    fn keeps_texts(rt: HostRuntime) -> Result<(), Fail> {
+        let text = Text::new(rt.alloc(), b"zzz")?;
+        let run = Text::repeat(3, b'z');
+        assert_eq!(rt; text.len(), 3);
+        assert_eq!(rt; run.len(), 3);
+        assert_eq!(rt; run.byte(2), b'z');
+        assert!(rt; text == run);
+        assert!(rt; text.copy(rt.alloc())? == run.copy(rt.alloc())?);
+        assert!(rt; text != Text::new(rt.alloc(), b"zz")?);
+        assert!(rt; Text::repeat(0, 1).is_empty());
+        Ok(())
+    }
+}
