@@ -1,5 +1,5 @@
 -- Byte addresses at which a volume may keep a block of a tree or of data.
-use Rattle.std.specs.Prelude.{◌≡◌, ◌≢◌, ◌≤◌, ◌<◌, ◌*◌, ◌/◌, ◌%◌, ℕ, Bool, ◌&&◌, not, nat_lt, nat_le, ◌==◌}
+use Rattle.std.specs.Prelude.{◌≡◌, ◌≢◌, ◌≤◌, ◌<◌, ◌/◌, ◌%◌, ℕ, Bool, ◌&&◌, not, nat_lt, nat_le, ◌==◌}
 
 -- a whole block inside the volume, behind the first superblock and not the second one's ("Superblock": its copies)
 pub record IsAllowed (blocks at : ℕ) : Type 0 where

@@ -1,15 +1,23 @@
 -- Bytes and little-endian fields, as all blocks and items of Btrfs have them.
-use Rattle.std.specs.Prelude.{◌≡◌, ◌≤◌, ◌<◌, ◌+◌, ◌^◌, ℕ, List, [], ◌∷◌, ◌++◌, length, take, drop, slice_index, replicate}
+use Rattle.std.specs.Prelude.{◌≡◌, ◌<◌, ◌+◌, ℕ, List, ◌++◌, length, take, drop, slice_index, replicate, All}
 use Rattle.byteorder.specs.Endian.{little_number, little_bytes}
 
 -- every item of the list is a byte
 abbrev pub IsBytes : List ℕ → Type 0
 IsBytes bytes = (i : ℕ) → slice_index bytes i < 256
 
--- the bytes of one block
+-- a block: 4096 bytes
 pub record IsBlock (bytes : List ℕ) : Type 0 where
   pub size : length bytes ≡ 4096
-  pub each : IsBytes bytes
+  pub range : All (λ byte. byte < 256) bytes
+
+-- the blocks of a disk, from block 0 on, each as the list of its bytes
+abbrev pub Image : Type 0
+Image = List (List ℕ)
+
+-- each block is one
+abbrev pub IsImage : Image → Type 0
+IsImage image = All IsBlock image
 
 -- the little-endian number in the n bytes at a place; a byte past the end counts as 0
 unfoldable pub field : ℕ → List ℕ → ℕ → ℕ

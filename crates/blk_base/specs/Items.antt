@@ -1,5 +1,5 @@
 -- Items of fixed length: inode items, root items, and the ranges of a log, from any list of bytes.
-use Rattle.std.specs.Prelude.{◌≡◌, ◌<◌, ◌^◌, ◌⊎◌, ℕ, Bool, ◌||◌, not, ◌==◌, List, [], ◌∷◌, ◌++◌, length, Result, Ok, Err, if◌then◌else◌}
+use Rattle.std.specs.Prelude.{◌≡◌, ◌<◌, ◌^◌, ◌⊎◌, ℕ, Bool, ◌||◌, not, ◌==◌, List, ◌++◌, length, Result, Ok, Err, if◌then◌else◌}
 use Rattle.blk_base.specs.declared.fault.ItemFault.{ItemFault}
 use Rattle.blk_base.specs.declared.fault.ItemFault.TheVariants.{Size, Kind}
 use Rattle.blk_base.specs.declared.fault.RootFault.{RootFault}

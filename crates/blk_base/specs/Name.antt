@@ -1,5 +1,5 @@
 -- Names of files and attributes.
-use Rattle.std.specs.Prelude.{◌≡◌, ◌≢◌, ◌<◌, ◌≤◌, ℕ, Bool, ◌&&◌, not, nat_le, ◌==◌, List, [], ◌∷◌, length, slice_index}
+use Rattle.std.specs.Prelude.{◌≢◌, ◌<◌, ◌≤◌, ℕ, Bool, ◌&&◌, not, nat_le, ◌==◌, List, [], ◌∷◌, length, slice_index}
 use Rattle.std.specs.List.{list_all}
 use Rattle.std.specs.Str.{bytes_eq}
 

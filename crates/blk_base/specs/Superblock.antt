@@ -1,5 +1,5 @@
 -- The superblock, from any list of bytes ("Superblock"; its 4096 bytes stand at byte address 65536).
-use Rattle.std.specs.Prelude.{◌≡◌, ◌≤◌, ◌<◌, ◌*◌, ◌/◌, ◌%◌, ◌^◌, ◌-◌, ℕ, min, length, Bool, ◌&&◌, ◌||◌, not, nat_lt, nat_le, ◌==◌, List, [], ◌∷◌, ◌++◌, Result, Ok, Err, if◌then◌else◌}
+use Rattle.std.specs.Prelude.{◌≡◌, ◌≤◌, ◌<◌, ◌*◌, ◌/◌, ◌%◌, ◌^◌, ◌-◌, ℕ, min, length, Bool, ◌&&◌, ◌||◌, not, nat_lt, nat_le, ◌==◌, List, [], ◌∷◌, Result, Ok, Err, if◌then◌else◌}
 use Rattle.std.specs.Str.{bytes_eq}
 use Rattle.blk_base.specs.declared.fault.SuperFault.{SuperFault}
 use Rattle.blk_base.specs.declared.fault.SuperFault.TheVariants.{Magic, Checksum, Foreign, Size, Root, Level, LogLevel}
