@@ -1,0 +1,5 @@
+use Rattle.disk_model.specs.Laws.{EveryMoment-joins}
+use Rattle.disk_model.proofs.laws.moments_join.Goals as goal
+
+pub returns : goal.returns
+returns g c = EveryMoment-joins g.P.Property.holds

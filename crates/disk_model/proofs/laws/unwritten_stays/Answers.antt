@@ -1,0 +1,5 @@
+use Rattle.disk_model.specs.Laws.{EveryMoment-stays}
+use Rattle.disk_model.proofs.laws.unwritten_stays.Goals as goal
+
+pub returns : goal.returns
+returns c = EveryMoment-stays

@@ -1,0 +1,278 @@
+-- Lemmas on what a crash may leave, for the proofs of this crate and of those above.
+use Rattle.std.specs.Prelude.{◌≡◌, ◌≢◌, ◌<◌, ◌⊎◌, ◌++◌, ◌∷◌, [], ℕ, zero, suc, List, length, Contains, Option, Some, None, Bool, true, false, slice_get, slice_set, slice_index_or, refl}
+use Rattle.std.proofs.Common.{sym, ◌∙◌, ap, subst, inl, inr, append_assoc, append-nil, arith}
+use Rattle.std.proofs.lemmas.List.{append_cancel_left}
+use Rattle.disk_model.specs.Disk.{Image, Call, Told, Held, Moment, Leaves, LeavesFrom, IsSince, GoesOn, EveryMoment, AtEveryMoment, Throughout, IfTold, TellsMore, Continues, HasNoSuper, Writes, after_call, during_call, after_calls, held_first, held_now, image_now}
+
+-- calls one after another
+pub after_calls-append : (held : Held) (xs ys : List Call) → after_calls held (xs ++ ys) ≡ after_calls (after_calls held xs) ys
+after_calls-append held [] ys = refl
+after_calls-append held (x ∷ xs) ys = after_calls-append (after_call held x) xs ys
+
+-- the moment one call later
+abbrev later : Moment → Moment
+later (Moment.Between k) = Moment.Between (suc k)
+later (Moment.Inside k) = Moment.Inside (suc k)
+
+LeavesFrom-later : (held : Held) (call : Call) (calls : List Call) (moment : Moment) (image : Image) → LeavesFrom (after_call held call) calls moment image → LeavesFrom held (call ∷ calls) (later moment) image
+LeavesFrom-later held call calls (Moment.Between k) image leaves = (omega (arith, leaves.0), leaves.1)
+LeavesFrom-later held call calls (Moment.Inside k) image leaves = leaves
+
+IsSince-zero : (moment : Moment) → IsSince 0 moment
+IsSince-zero (Moment.Between k) = omega arith
+IsSince-zero (Moment.Inside k) = omega arith
+
+IsSince-later : (n : ℕ) (moment : Moment) → IsSince n moment → IsSince (suc n) (later moment)
+IsSince-later n (Moment.Between k) since = omega arith
+IsSince-later n (Moment.Inside k) since = omega arith
+
+-- what holds call by call holds at each moment
+pub each_moment_from_throughout : (P : Image → Type 0) (held : Held) (calls : List Call) → Throughout held calls P → (moment : Moment) (image : Image) → LeavesFrom held calls moment image → P image
+each_moment_from_throughout P held [] all (Moment.Between zero) image leaves = all image leaves.1
+each_moment_from_throughout P held [] all (Moment.Between (suc k)) image leaves = absurd (omega (arith, leaves.0))
+each_moment_from_throughout P held [] all (Moment.Inside k) image leaves = absurd leaves
+each_moment_from_throughout P held (call ∷ calls) all (Moment.Between zero) image leaves = all.0 image leaves.1
+each_moment_from_throughout P held (call ∷ calls) all (Moment.Between (suc k)) image leaves =
+    each_moment_from_throughout P (after_call held call) calls all.2 (Moment.Between k) image (omega (arith, leaves.0), leaves.1)
+each_moment_from_throughout P held (call ∷ calls) all (Moment.Inside zero) image leaves = all.1 image leaves
+each_moment_from_throughout P held (call ∷ calls) all (Moment.Inside (suc k)) image leaves =
+    each_moment_from_throughout P (after_call held call) calls all.2 (Moment.Inside k) image leaves
+
+-- what holds at each moment holds call by call
+pub throughout_from_each_moment : (P : Image → Type 0) (held : Held) (calls : List Call) → ((moment : Moment) (image : Image) → LeavesFrom held calls moment image → P image) → Throughout held calls P
+throughout_from_each_moment P held [] all = λ image leaves. all (Moment.Between zero) image (omega arith, leaves)
+throughout_from_each_moment P held (call ∷ calls) all = (
+  λ image leaves. all (Moment.Between zero) image (omega arith, leaves),
+  λ image leaves. all (Moment.Inside zero) image leaves,
+  throughout_from_each_moment P (after_call held call) calls (λ moment image leaves. all (later moment) image (LeavesFrom-later held call calls moment image leaves)),
+)
+
+since_from_throughout : (P : Image → Type 0) (held : Held) (xs ys : List Call) → Throughout (after_calls held xs) ys P → (moment : Moment) (image : Image) → IsSince (length xs) moment → LeavesFrom held (xs ++ ys) moment image → P image
+since_from_throughout P held [] ys all moment image since leaves = each_moment_from_throughout P held ys all moment image leaves
+since_from_throughout P held (x ∷ xs) ys all (Moment.Between zero) image since leaves = absurd (omega (arith, since))
+since_from_throughout P held (x ∷ xs) ys all (Moment.Between (suc k)) image since leaves =
+    since_from_throughout P (after_call held x) xs ys all (Moment.Between k) image (omega (arith, since)) (omega (arith, leaves.0), leaves.1)
+since_from_throughout P held (x ∷ xs) ys all (Moment.Inside zero) image since leaves = absurd (omega (arith, since))
+since_from_throughout P held (x ∷ xs) ys all (Moment.Inside (suc k)) image since leaves =
+    since_from_throughout P (after_call held x) xs ys all (Moment.Inside k) image (omega (arith, since)) leaves
+
+throughout_from_since : (P : Image → Type 0) (held : Held) (xs ys : List Call) → ((moment : Moment) (image : Image) → IsSince (length xs) moment → LeavesFrom held (xs ++ ys) moment image → P image) → Throughout (after_calls held xs) ys P
+throughout_from_since P held [] ys all =
+    throughout_from_each_moment P held ys (λ moment image leaves. all moment image (IsSince-zero moment) leaves)
+throughout_from_since P held (x ∷ xs) ys all =
+    throughout_from_since P (after_call held x) xs ys (λ moment image since leaves. all (later moment) image (IsSince-later (length xs) moment since) (LeavesFrom-later held x (xs ++ ys) moment image leaves))
+
+-- at first a record that goes on is as it was
+pub held_first-goes_on : (old new : Told) (added : List Call) → GoesOn old new added → held_first new ≡ held_first old
+held_first-goes_on old new added goes =
+    ap (λ (first : Image). record { image = first; pending = []; supers = new.supers }) goes.first ∙ ap (λ (supers : Image). record { image = old.first; pending = []; supers = supers }) goes.supers
+
+-- what a record that goes on leads to
+pub held_now-goes_on : (old new : Told) (added : List Call) → GoesOn old new added → held_now new ≡ after_calls (held_now old) added
+held_now-goes_on old new added goes =
+    ap (λ (held : Held). after_calls held new.calls) (held_first-goes_on old new added goes) ∙ ap (λ (calls : List Call). after_calls (held_first old) calls) goes.calls ∙ after_calls-append (held_first old) old.calls added
+
+-- records that go on, one after the other
+pub GoesOn-joins : (old mid new : Told) (xs ys : List Call) → GoesOn old mid xs → GoesOn mid new ys → GoesOn old new (xs ++ ys)
+GoesOn-joins old mid new xs ys first second = record {
+  first = second.first ∙ first.first;
+  supers = second.supers ∙ first.supers;
+  calls = second.calls ∙ ap (λ (calls : List Call). calls ++ ys) first.calls ∙ append_assoc old.calls xs ys;
+}
+
+-- a record goes on by no call
+pub GoesOn-same : (told : Told) → GoesOn told told []
+GoesOn-same told = record { first = refl; supers = refl; calls = sym (append-nil told.calls) }
+
+-- calls one after the other, where they are told
+pub TellsMore-joins : (old mid new : Option Told) (xs ys : List Call) → TellsMore old mid xs → TellsMore mid new ys → TellsMore old new (xs ++ ys)
+TellsMore-joins None None None xs ys first second = tt
+TellsMore-joins None None (Some new) xs ys first second = second
+TellsMore-joins None (Some mid) new xs ys first second = absurd first
+TellsMore-joins (Some old) None new xs ys first second = absurd first
+TellsMore-joins (Some old) (Some mid) None xs ys first second = second
+TellsMore-joins (Some old) (Some mid) (Some new) xs ys first second = GoesOn-joins old mid new xs ys first second
+
+-- Every moment, from call by call
+pub every_moment_from_throughout : (P : Image → Type 0) (old new : Told) (added : List Call) → GoesOn old new added → Throughout (held_now old) added P → EveryMoment old new P
+every_moment_from_throughout P old new added goes all = record {
+  added = added;
+  goes_on = goes;
+  each = λ moment image since leaves.
+      let from_old : LeavesFrom (held_first old) new.calls moment image = subst (λ (held : Held). LeavesFrom held new.calls moment image) (held_first-goes_on old new added goes) leaves in
+      let joined : LeavesFrom (held_first old) (old.calls ++ added) moment image = subst (λ (calls : List Call). LeavesFrom (held_first old) calls moment image) goes.calls from_old in
+      since_from_throughout P (held_first old) old.calls added all moment image since joined;
+}
+
+-- call by call, from every moment
+pub throughout_from_every_moment : (P : Image → Type 0) (old new : Told) → (every : EveryMoment old new P) → Throughout (held_now old) every.added P
+throughout_from_every_moment P old new every =
+    throughout_from_since P (held_first old) old.calls every.added (λ moment image since leaves.
+    let from_new : LeavesFrom (held_first new) (old.calls ++ every.added) moment image = subst (λ (held : Held). LeavesFrom held (old.calls ++ every.added) moment image) (sym (held_first-goes_on old new every.added every.goes_on)) leaves in
+    let whole : LeavesFrom (held_first new) new.calls moment image = subst (λ (calls : List Call). LeavesFrom (held_first new) calls moment image) (sym every.goes_on.calls) from_new in
+    every.each moment image since whole)
+
+-- calls one after another, call by call
+pub Throughout-append : (P : Image → Type 0) (held : Held) (xs ys : List Call) → Throughout held xs P → Throughout (after_calls held xs) ys P → Throughout held (xs ++ ys) P
+Throughout-append P held [] ys first second = second
+Throughout-append P held (x ∷ xs) ys first second =
+    (first.0, first.1, Throughout-append P (after_call held x) xs ys first.2 second)
+
+-- what follows from P, call by call
+pub Throughout-weaker : (P Q : Image → Type 0) (held : Held) (calls : List Call) → ((image : Image) → P image → Q image) → Throughout held calls P → Throughout held calls Q
+Throughout-weaker P Q held [] weaker all = λ image leaves. weaker image (all image leaves)
+Throughout-weaker P Q held (call ∷ calls) weaker all =
+    (λ image leaves. weaker image (all.0 image leaves), λ image leaves. weaker image (all.1 image leaves), Throughout-weaker P Q (after_call held call) calls weaker all.2)
+
+-- the moments of two stretches, one after the other
+pub EveryMoment-joins : (P : Image → Type 0) (old mid new : Told) → EveryMoment old mid P → EveryMoment mid new P → EveryMoment old new P
+EveryMoment-joins P old mid new first second =
+    every_moment_from_throughout P old new (first.added ++ second.added) (GoesOn-joins old mid new first.added second.added first.goes_on second.goes_on)
+    (Throughout-append P (held_now old) first.added second.added (throughout_from_every_moment P old mid first)
+    (subst (λ (held : Held). Throughout held second.added P) (held_now-goes_on old mid first.added first.goes_on) (throughout_from_every_moment P mid new second)))
+
+-- what follows from P, at every moment
+pub EveryMoment-weaker : (P Q : Image → Type 0) (old new : Told) → ((image : Image) → P image → Q image) → EveryMoment old new P → EveryMoment old new Q
+EveryMoment-weaker P Q old new weaker every = record {
+  added = every.added;
+  goes_on = every.goes_on;
+  each = λ moment image since leaves. weaker image (every.each moment image since leaves);
+}
+
+-- no call: what a crash may leave now
+pub EveryMoment-same : (P : Image → Type 0) (told : Told) → ((image : Image) → Leaves (held_now told) image → P image) → EveryMoment told told P
+EveryMoment-same P told now = every_moment_from_throughout P told told [] (GoesOn-same told) now
+
+-- the two forms of the same, where the calls since are known
+pub throughout_from_every_moment_of : (P : Image → Type 0) (old new : Told) (added : List Call) → GoesOn old new added → EveryMoment old new P → Throughout (held_now old) added P
+throughout_from_every_moment_of P old new added goes every =
+    let same : every.added ≡ added = append_cancel_left old.calls every.added added (sym every.goes_on.calls ∙ goes.calls) in
+    subst (λ (calls : List Call). Throughout (held_now old) calls P) same (throughout_from_every_moment P old new every)
+
+-- one call: before it, while it runs and after it
+pub EveryMoment-call : (P : Image → Type 0) (old new : Told) (ok : Bool) (call : Call) → Continues (Some old) (Some new) ok call → ((image : Image) → Leaves (held_now old) image → P image) → ((image : Image) → Leaves (during_call (held_now old) call) image → P image) → ((image : Image) → Leaves (after_call (held_now old) call) image → P image) → EveryMoment old new P
+EveryMoment-call P old new true call goes before during after =
+    every_moment_from_throughout P old new (call ∷ []) goes (before, during, after)
+EveryMoment-call P old new false call goes before during after =
+    elim goes [ inl goes ↦ every_moment_from_throughout P old new (call ∷ []) goes (before, during, after) | inr same ↦ every_moment_from_throughout P old new [] same before ]
+
+-- the moments of two stretches, where they are told
+pub AtEveryMoment-joins : (P : Image → Type 0) (old mid new : Option Told) → AtEveryMoment old mid P → AtEveryMoment mid new P → AtEveryMoment old new P
+AtEveryMoment-joins P None None None first second = tt
+AtEveryMoment-joins P None None (Some new) first second = second
+AtEveryMoment-joins P None (Some mid) new first second = absurd first
+AtEveryMoment-joins P (Some old) None new first second = absurd first
+AtEveryMoment-joins P (Some old) (Some mid) None first second = second
+AtEveryMoment-joins P (Some old) (Some mid) (Some new) first second = EveryMoment-joins P old mid new first second
+
+-- what follows from P, where the moments are told
+pub AtEveryMoment-weaker : (P Q : Image → Type 0) (old new : Option Told) → ((image : Image) → P image → Q image) → AtEveryMoment old new P → AtEveryMoment old new Q
+AtEveryMoment-weaker P Q None None weaker every = tt
+AtEveryMoment-weaker P Q None (Some new) weaker every = every
+AtEveryMoment-weaker P Q (Some old) None weaker every = every
+AtEveryMoment-weaker P Q (Some old) (Some new) weaker every = EveryMoment-weaker P Q old new weaker every
+
+-- no call, where the moments are told
+pub AtEveryMoment-same : (P : Image → Type 0) (told : Option Told) → IfTold told (λ old. (image : Image) → Leaves (held_now old) image → P image) → AtEveryMoment told told P
+AtEveryMoment-same P None now = tt
+AtEveryMoment-same P (Some told) now = EveryMoment-same P told now
+
+-- reading another block than the one that was set
+pub slice_get-set_other : {A : Type 0} (xs : List A) (i j : ℕ) (x : A) → j ≢ i → slice_get (slice_set xs i x) j ≡ slice_get xs j
+slice_get-set_other [] i j x other = refl
+slice_get-set_other (y ∷ ys) zero zero x other = absurd (other refl)
+slice_get-set_other (y ∷ ys) zero (suc j) x other = refl
+slice_get-set_other (y ∷ ys) (suc i) zero x other = refl
+slice_get-set_other (y ∷ ys) (suc i) (suc j) x other = slice_get-set_other ys i j x (λ same. other (ap suc same))
+
+-- reading the block that was set
+pub slice_get-set_same : {A : Type 0} (xs : List A) (i : ℕ) (x : A) → i < length xs → slice_get (slice_set xs i x) i ≡ Some x
+slice_get-set_same [] i x within = absurd (omega (arith, within))
+slice_get-set_same (y ∷ ys) zero x within = refl
+slice_get-set_same (y ∷ ys) (suc i) x within = slice_get-set_same ys i x (omega (arith, within))
+
+-- a list with one more element in front
+pub Contains-cons_cases : {A : Type 0} (y : A) (ys : List A) (x : A) → Contains (y ∷ ys) x → (y ≡ x) ⊎ Contains ys x
+Contains-cons_cases y ys x (zero, within, same) = inl same
+Contains-cons_cases y ys x (suc k, within, same) = inr (k, omega (arith, within), same)
+
+-- a list with one element
+pub Contains-single : {A : Type 0} (y x : A) → Contains (y ∷ []) x → x ≡ y
+Contains-single y x (zero, within, same) = sym same
+Contains-single y x (suc k, within, same) = absurd (omega (arith, within))
+
+-- no element is in the empty list
+pub Contains-none : {A : Type 0} (x : A) → Contains [] x → ⊥
+Contains-none x (k, within, same) = absurd (omega (arith, within))
+
+-- after a flush that answered Ok, a crash leaves what a read gives, in every block but the superblock
+pub leaves_after_flush : (old new : Told) (image : Image) → GoesOn old new (Call.Flush true ∷ []) → Leaves (held_now new) image → (at : ℕ) → at ≢ 16 → slice_get image at ≡ slice_get (image_now new) at
+leaves_after_flush old new image goes leaves at other =
+    leaves.others at other (λ pending. Contains-none at (subst (λ (held : Held). Contains held.pending at) (held_now-goes_on old new (Call.Flush true ∷ []) goes) pending))
+
+-- a call that writes no superblock leaves those that a crash may find
+supers-after_calls : (held : Held) (calls : List Call) → HasNoSuper calls → (after_calls held calls).supers ≡ held.supers
+supers-after_calls held [] none = refl
+supers-after_calls held (Call.Write at bytes ok left ∷ calls) none = supers-after_calls (after_call held (Call.Write at bytes ok left)) calls none
+supers-after_calls held (Call.Super bytes ok left ∷ calls) none = absurd none
+supers-after_calls held (Call.Flush ok ∷ calls) none = supers-after_calls (after_call held (Call.Flush ok)) calls none
+
+-- the superblock of an image
+abbrev HasSuper : List ℕ → Image → Type 0
+HasSuper bytes image = slice_index_or image 16 [] ≡ bytes
+
+leaves-super : (held : Held) (bytes : List ℕ) (image : Image) → held.supers ≡ bytes ∷ [] → Leaves held image → HasSuper bytes image
+leaves-super held bytes image only leaves =
+    Contains-single bytes (slice_index_or image 16 []) (subst (λ (supers : List (List ℕ)). Contains supers (slice_index_or image 16 [])) only leaves.super)
+
+Throughout-super : (held : Held) (bytes : List ℕ) (calls : List Call) → held.supers ≡ bytes ∷ [] → HasNoSuper calls → Throughout held calls (HasSuper bytes)
+Throughout-super held bytes [] only none = λ image leaves. leaves-super held bytes image only leaves
+Throughout-super held bytes (Call.Write at data_ ok left ∷ calls) only none = (
+  λ image leaves. leaves-super held bytes image only leaves,
+  λ image leaves. leaves-super (during_call held (Call.Write at data_ ok left)) bytes image only leaves,
+  Throughout-super (after_call held (Call.Write at data_ ok left)) bytes calls only none,
+)
+Throughout-super held bytes (Call.Super data_ ok left ∷ calls) only none = absurd none
+Throughout-super held bytes (Call.Flush ok ∷ calls) only none = (
+  λ image leaves. leaves-super held bytes image only leaves,
+  λ image leaves. leaves-super held bytes image only leaves,
+  Throughout-super (after_call held (Call.Flush ok)) bytes calls only none,
+)
+
+-- After a write of the superblock that answered Ok, and until the next such write, a crash finds these bytes.
+pub super_after_ok : (old mid new : Told) (bytes left : List ℕ) (calls : List Call) → GoesOn old mid (Call.Super bytes true left ∷ []) → GoesOn mid new calls → HasNoSuper calls → EveryMoment mid new (HasSuper bytes)
+super_after_ok old mid new bytes left calls wrote goes none =
+    every_moment_from_throughout (HasSuper bytes) mid new calls goes
+    (Throughout-super (held_now mid) bytes calls (ap (λ (held : Held). held.supers) (held_now-goes_on old mid (Call.Super bytes true left ∷ []) wrote)) none)
+
+-- A block that isn't pending and that no call writes stays, call by call.
+pub Throughout-stays : (held : Held) (calls : List Call) (block : ℕ) (was : Option (List ℕ)) → slice_get held.image block ≡ was → block ≢ 16 → (Contains held.pending block → ⊥) → (Writes calls block → ⊥) → Throughout held calls (λ image. slice_get image block ≡ was)
+Throughout-stays held [] block was is other settled unwritten = λ image leaves. leaves.others block other settled ∙ is
+Throughout-stays held (Call.Write at bytes ok left ∷ calls) block was is other settled unwritten =
+    let apart : Contains (at ∷ held.pending) block → ⊥ = λ pending. elim (Contains-cons_cases at held.pending block pending) [ inl same ↦ unwritten (inl same) | inr among ↦ settled among ] in (
+      λ image leaves. leaves.others block other settled ∙ is,
+      λ image leaves. leaves.others block other apart ∙ is,
+      Throughout-stays (after_call held (Call.Write at bytes ok left)) calls block was
+          (slice_get-set_other held.image at block left (λ same. unwritten (inl (sym same))) ∙ is) other apart (λ written. unwritten (inr written)),
+    )
+Throughout-stays held (Call.Super bytes ok left ∷ calls) block was is other settled unwritten = (
+  λ image leaves. leaves.others block other settled ∙ is,
+  λ image leaves. leaves.others block other settled ∙ is,
+  Throughout-stays (after_call held (Call.Super bytes ok left)) calls block was (slice_get-set_other held.image 16 block left other ∙ is) other settled unwritten,
+)
+Throughout-stays held (Call.Flush true ∷ calls) block was is other settled unwritten = (
+  λ image leaves. leaves.others block other settled ∙ is,
+  λ image leaves. leaves.others block other settled ∙ is,
+  Throughout-stays (after_call held (Call.Flush true)) calls block was is other (Contains-none block) unwritten,
+)
+Throughout-stays held (Call.Flush false ∷ calls) block was is other settled unwritten = (
+  λ image leaves. leaves.others block other settled ∙ is,
+  λ image leaves. leaves.others block other settled ∙ is,
+  Throughout-stays (after_call held (Call.Flush false)) calls block was is other settled unwritten,
+)
+
+-- A block that isn't pending and that no call writes stays, at every moment.
+pub EveryMoment-stays : (old new : Told) (calls : List Call) (block : ℕ) → GoesOn old new calls → block ≢ 16 → (Contains (held_now old).pending block → ⊥) → (Writes calls block → ⊥) → EveryMoment old new (λ image. slice_get image block ≡ slice_get (image_now old) block)
+EveryMoment-stays old new calls block goes other settled unwritten =
+    every_moment_from_throughout (λ image. slice_get image block ≡ slice_get (image_now old) block) old new calls goes
+    (Throughout-stays (held_now old) calls block (slice_get (image_now old) block) refl other settled unwritten)

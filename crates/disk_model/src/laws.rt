@@ -1,0 +1,41 @@
+//! Laws on what a crash may leave, for the proofs of the crates above.
+ghost use Rattle.std.specs.Prelude.{◌≡◌, ◌≢◌, ◌↔◌, ◌∷◌, [], ℕ, List, Contains, Bool, true, slice_get, slice_index_or};
+ghost use Rattle.disk_model.specs.Disk.{Image, Told, Call, Leaves, GoesOn, EveryMoment, Throughout, HasNoSuper, Writes, held_now, image_now};
+
+/// A property of an image, for laws that hold of each.
+pub trait Property {
+    /// The image has it.
+    ghost holds: { Image → Type 0 };
+}
+
+/// What holds at every moment of a stretch of calls and of the next one holds at every moment of both.
+pub fn moments_join<P: Property>()
+    ensures { (old mid new : Told) → EveryMoment old mid P.holds → EveryMoment mid new P.holds → EveryMoment old new P.holds }
+{}
+
+/// What follows from a property that holds at every moment holds at every moment.
+pub fn moments_weaken<P: Property, Q: Property>()
+    ensures { (old new : Told) → ((image : Image) → P.holds image → Q.holds image) → EveryMoment old new P.holds → EveryMoment old new Q.holds }
+{}
+
+/// At every moment of a stretch of calls, and before, during and after each of them, is the same.
+pub fn moments_by_calls<P: Property>()
+    ensures { (old new : Told) (added : List Call) → GoesOn old new added → (EveryMoment old new P.holds ↔ Throughout (held_now old) added P.holds) }
+{}
+
+/// After a flush that answered Ok, a crash leaves what a read gives in every block but the superblock.
+pub fn flush_settles()
+    ensures { (old new : Told) (image : Image) → GoesOn old new (Call.Flush true ∷ []) → Leaves (held_now new) image → (at : ℕ) → at ≢ 16 → slice_get image at ≡ slice_get (image_now new) at }
+{}
+
+/// After a write of the superblock that answered Ok, and until the next such write, a crash finds its bytes.
+pub fn super_is_durable()
+    ensures { (old mid new : Told) (bytes left : List ℕ) (calls : List Call) → GoesOn old mid (Call.Super bytes true left ∷ []) → GoesOn mid new calls → HasNoSuper calls
+        → EveryMoment mid new (λ image. slice_index_or image 16 [] ≡ bytes) }
+{}
+
+/// A block that isn't the superblock, isn't pending and that no call writes, stays at every moment.
+pub fn unwritten_stays()
+    ensures { (old new : Told) (calls : List Call) (block : ℕ) → GoesOn old new calls → block ≢ 16 → (Contains (held_now old).pending block → ⊥) → (Writes calls block → ⊥)
+        → EveryMoment old new (λ image. slice_get image block ≡ slice_get (image_now old) block) }
+{}

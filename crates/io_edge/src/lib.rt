@@ -1,0 +1,18 @@
+//! The edge to the outside: where scripts come from, and where texts go.
+//!
+//! A source may tell what it has left to give, and a sink what it has taken. Each counts its faults. Those in memory
+//! tell both, and fail at the calls that they are told.
+#![tactic(auto)]
+
+mod calls;
+mod memory_sink;
+mod memory_source;
+mod sink;
+mod source;
+#[cfg(test)]
+mod tests;
+
+pub use memory_sink::{MemorySink, SINK_ROOM};
+pub use memory_source::MemorySource;
+pub use sink::{Sink, SinkFailed};
+pub use source::{Source, SourceFailed};
