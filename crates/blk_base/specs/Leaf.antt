@@ -1,13 +1,14 @@
 -- Blocks of trees: the header, a leaf's list of items and a node's list of pointers, from any list of bytes.
-use Rattle.std.specs.Prelude.{◌≡◌, ◌≤◌, ◌<◌, ◌+◌, ◌*◌, ◌-◌, ℕ, Bool, ◌&&◌, ◌||◌, not, nat_lt, nat_le, ◌==◌, List, [], ◌∷◌, length, map, slice_get, Some, Result, Ok, Err, if◌then◌else◌}
+use Rattle.std.specs.Prelude.{◌≡◌, ◌≤◌, ◌<◌, ◌+◌, ◌*◌, ◌-◌, ◌^◌, ℕ, Bool, ◌&&◌, ◌||◌, not, nat_lt, nat_le, ◌==◌, List, [], ◌∷◌, length, map, slice_get, Some, Result, Ok, Err, if◌then◌else◌}
 use Rattle.std.specs.List.{list_all, range_with_len}
 use Rattle.std.specs.Str.{bytes_eq}
 use Rattle.blk_base.specs.declared.key.Key.{Key}
 use Rattle.blk_base.specs.declared.key.Want.{Want}
 use Rattle.blk_base.specs.declared.fault.BlockFault.{BlockFault}
 use Rattle.blk_base.specs.declared.fault.BlockFault.TheVariants.{Checksum, Fsid, Address, Generation, Owner, Level, Count, Order, Bounds, Overlap}
-use Rattle.blk_base.specs.Bytes.{field, bytes_at}
+use Rattle.blk_base.specs.Bytes.{field, bytes_at, number_bytes, zeros}
 use Rattle.blk_base.specs.Crc.{block_sum}
+use Rattle.blk_base.specs.Superblock.{Field, with_fields, with_sum}
 use Rattle.blk_base.specs.Keys.{KeyBelow, key_at, keys_rise}
 
 -- ---- the header ("Header": csum, fsid, bytenr, flags, chunk tree uuid, generation, owner, nritems, level)
@@ -34,6 +35,24 @@ after_header want bytes body =
     if not (field 8 bytes 80 == want.generation) then Err Generation else
     if not (field 8 bytes 88 == want.owner) then Err Owner else
     if not (field 1 bytes 100 == want.level) then Err Level else body
+
+-- the header's fields as they are written: the sum has four bytes and zeros behind; flags are bit 0, written, and back
+-- reference revision 1; the uuid of the chunk tree is zero
+abbrev pub header_fields : Want → List Field
+header_fields want =
+    (4, zeros 28)
+    ∷ (32, want.fsid)
+    ∷ (48, number_bytes 8 want.at.0)
+    ∷ (56, number_bytes 8 (2 ^ 56 + 1))
+    ∷ (64, zeros 16)
+    ∷ (80, number_bytes 8 want.generation)
+    ∷ (88, number_bytes 8 want.owner)
+    ∷ (100, number_bytes 1 want.level)
+    ∷ []
+
+-- a body with its header, and the sum of all from byte 32 on
+unfoldable pub sealed : Want → List ℕ → List ℕ
+sealed want bytes = with_sum (with_fields bytes (header_fields want))
 
 -- ---- leaves ("Leaf Node": item headers of 25 bytes from the front, data from the back)
 
