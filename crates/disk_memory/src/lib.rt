@@ -1,0 +1,20 @@
+//! Disks in memory, for tests: one that keeps the record of its calls and fails when it is told to, and one that never
+//! fails.
+//!
+//! `MemoryDisk` tells every moment of its calls, and `crash` makes a disk of one of the images that a crash may leave.
+#![tactic(auto)]
+
+mod blocks;
+mod crash;
+mod entry;
+mod fault;
+mod kept;
+mod memory_disk;
+mod never_fails;
+mod plan;
+#[cfg(test)]
+mod tests;
+
+pub use fault::{FEWEST_BLOCKS, MOST_BLOCKS, MemoryDiskFault};
+pub use memory_disk::MemoryDisk;
+pub use never_fails::NeverFails;

@@ -1,0 +1,156 @@
+ghost use Rattle.std.specs.Prelude.{◌≡◌, ◌≢◌, ◌<◌, ◌∷◌, [], true, OnOk};
+ghost use Rattle.disk_model.specs.Disk.{Call, HasCause, TellsMore};
+
+use super::*;
+use blk_base::Block;
+use disk_model::{Disk, DiskFailed};
+use std::test::Fail;
+
+/// The way of every commit: the blocks, a flush, the superblock.
+fn publish<D: Disk>(
+    disk: &mut D,
+    at: u32,
+    leaf: &Block,
+    superblock: &Block,
+) -> Result<(), DiskFailed>
+    requires big { 16 < D.count disk.old }
+    requires range { at < D.count disk.old }
+    requires not_super { at ≢ 16 }
+    ensures told { OnOk result (TellsMore (D.told disk.old) (D.told disk.new)
+        (Call.Write at leaf.now true leaf.now ∷ Call.Flush true ∷ Call.Super superblock.now true superblock.now ∷ [])) }
+    ensures cause { HasCause (D.faults disk.old) (D.faults disk.new) result }
+{
+    disk.write(at, leaf)?;
+    disk.flush()?;
+    disk.write_super(superblock)?;
+    Ok(())
+}
+
+fn commit<D: Disk>(disk: &mut D, byte: u8) -> Result<(), DiskFailed> {
+    if disk.blocks() <= 100 {
+        return Err(DiskFailed);
+    }
+    publish(disk, 100, &[byte; 4096], &[byte; 4096])
+}
+
+fn put<D: Disk>(disk: &mut D, at: u32, byte: u8) -> Result<(), DiskFailed> {
+    if at >= disk.blocks() {
+        return Err(DiskFailed);
+    }
+    if at == 16 {
+        return disk.write_super(&[byte; 4096]);
+    }
+    disk.write(at, &[byte; 4096])
+}
+
+fn get<D: Disk>(disk: &mut D, at: u32) -> Result<Block, DiskFailed> {
+    let mut block = [0; 4096];
+    if at >= disk.blocks() {
+        return Err(DiskFailed);
+    }
+    disk.read(at, &mut block)?;
+    Ok(block)
+}
+
+#[test]
+fn sizes(rt: HostRuntime) {
+    let rows = [
+        (4095, Some(MemoryDiskFault::TooSmall)),
+        (4096, None),
+        (65536, None),
+        (65537, Some(MemoryDiskFault::TooLarge)),
+    ];
+    for (blocks, fault) in rows {
+        assert_eq!(rt;
+            MemoryDisk::new(rt.alloc(), blocks, 4, &[]).err(),
+            fault,
+            "{blocks}"
+        );
+        assert_eq!(rt;
+            NeverFails::new(rt.alloc(), blocks).err(),
+            fault,
+            "{blocks}"
+        );
+    }
+}
+
+#[test]
+fn calls_fail_as_told(rt: HostRuntime) -> Result<(), Fail> {
+    let mut disk = MemoryDisk::new(rt.alloc(), 4096, 5, &[2, 4])?;
+    assert_eq!(rt; put(&mut disk, 100, 1), Ok(()));
+    assert_eq!(rt; put(&mut disk, 100, 2), Err(DiskFailed));
+    assert_eq!(rt; get(&mut disk, 100)?[0], 1);
+    assert_eq!(rt; disk.flush(), Err(DiskFailed));
+    assert_eq!(rt; put(&mut disk, 16, 3), Ok(()));
+    assert_eq!(rt; get(&mut disk, 16)?[4095], 3);
+
+    // The record has room for one call more.
+    assert_eq!(rt; disk.flush(), Ok(()));
+    assert_eq!(rt; disk.flush(), Err(DiskFailed));
+
+    let mut disk = MemoryDisk::new(rt.alloc(), 4096, 5, &[])?;
+    disk.stop_after(2);
+    assert_eq!(rt; commit(&mut disk, 7), Err(DiskFailed));
+    assert_eq!(rt; get(&mut disk, 100).err(), Some(DiskFailed));
+    Ok(())
+}
+
+#[test]
+fn never_fails(rt: HostRuntime) -> Result<(), Fail> {
+    let mut disk = NeverFails::new(rt.alloc(), 4096)?;
+    assert_eq!(rt; commit(&mut disk, 9), Ok(()));
+    assert_eq!(rt; get(&mut disk, 100)?[17], 9);
+    assert_eq!(rt; get(&mut disk, 16)?[17], 9);
+    assert_eq!(rt; get(&mut disk, 101)?[17], 0);
+    Ok(())
+}
+
+/// Whether the bytes are all old, all new, old and then new, or others.
+fn kind(block: &Block, old: u8, new: u8) -> usize
+    ensures { result < 4 }
+{
+    if block.iter().all(|byte| *byte == old) {
+        0
+    } else if block.iter().all(|byte| *byte == new) {
+        1
+    } else if block.iter().all(|byte| *byte == old || *byte == new) {
+        2
+    } else {
+        3
+    }
+}
+
+#[test]
+fn a_crash_leaves_each_kind_of_block(rt: HostRuntime) -> Result<(), Fail> {
+    // The sixth call, a write of the superblock, fails.
+    let mut disk = MemoryDisk::new(rt.alloc(), 4096, 8, &[6])?;
+    assert_eq!(rt; commit(&mut disk, 1), Ok(()));
+    assert_eq!(rt; put(&mut disk, 100, 2), Ok(()));
+    assert_eq!(rt; put(&mut disk, 101, 3), Ok(()));
+    assert_eq!(rt; put(&mut disk, 16, 2), Err(DiskFailed));
+
+    let mut blocks = [false; 4];
+    let mut supers = [false; 4];
+    for pick in 0..40 {
+        let mut left = disk.crash(rt.alloc(), pick)?;
+        blocks[kind(&get(&mut left, 100)?, 1, 2)] = true;
+        supers[kind(&get(&mut left, 16)?, 1, 2)] = true;
+        assert_eq!(rt; get(&mut left, 99)?[0], 0);
+    }
+    assert_eq!(rt; blocks, [true, true, true, true]);
+    assert_eq!(rt; supers, [true, true, false, false]);
+    Ok(())
+}
+
+#[test]
+fn a_crash_keeps_what_was_committed(rt: HostRuntime) -> Result<(), Fail> {
+    let mut disk = MemoryDisk::new(rt.alloc(), 4096, 3, &[])?;
+    assert_eq!(rt; commit(&mut disk, 5), Ok(()));
+    for pick in 0..8 {
+        let mut left = disk.crash(rt.alloc(), pick)?;
+        assert_eq!(rt; kind(&get(&mut left, 100)?, 5, 0), 0);
+        assert_eq!(rt; kind(&get(&mut left, 16)?, 5, 0), 0);
+        assert_eq!(rt; commit(&mut left, 6), Ok(()));
+    }
+    Ok(())
+}
