@@ -1,4 +1,4 @@
-ghost use Rattle.std.specs.Prelude.{◌≡◌, ◌↔◌, ℕ, IsTrue, IfOk, List, bytes_eq};
+ghost use Rattle.std.specs.Prelude.{◌≡◌, ◌↔◌, ◌<◌, ℕ, All, IsTrue, IfOk, List, bytes_eq};
 ghost use Rattle.std.specs.Ordering.{nat_cmp};
 ghost use Rattle.std.specs.Cmp.{partial_equiv_from_equiv};
 ghost use Rattle.std.specs.Cmp.Lexicographic.{slice_cmp, nat_list_eq_equiv, nat_list_cmp_total, texts_ties, texts_po};
@@ -64,14 +64,14 @@ pub struct Name {
 }
 
 impl Model for Name {
-    ghost use Rattle.std.specs.Prelude.{ℕ, List};
+    ghost use Rattle.std.specs.Prelude.{ℕ, ◌<◌, List, All};
     ghost use Rattle.blk_base.specs.Name.{IsName};
 
     ghost Value = { List ℕ };
 
     ghost view = { λ name. name.bytes.items };
 
-    ghost invariant = { λ name. IsName name.bytes.items };
+    ghost invariant = { λ name. IsName name.bytes.items × All (λ byte. byte < 256) name.bytes.items };
 }
 
 impl Name {
@@ -88,6 +88,7 @@ impl Name {
     pub fn as_bytes(&self) -> &[u8]
         ensures value { result.now ≡ self.now }
         ensures name { IsName self.now }
+        ensures bytes { All (λ byte. byte < 256) self.now }
     {
         self.bytes.as_slice()
     }
