@@ -1,0 +1,25 @@
+use Rattle.std.proofs.Common.{arith, ◌∙◌, sym}
+use Rattle.std.proofs.lemmas.List.{length-map}
+use Rattle.blk_base.specs.Leaf.{item_key}
+use Rattle.leaf_view.specs.Search.{keys_of}
+use Rattle.leaf_view.proofs.Views.{body_of_view, key_in, rising, found_in, absent_in}
+use Rattle.leaf_view.proofs.leaf.LeafView.find.Goals as goal
+
+pub find_key-requires-clause-rise : goal.find_key-requires-clause-rise
+find_key-requires-clause-rise c =
+    let body = body_of_view c.self.inside.block.now c.args.self.now c.self.invariant c.self.view_is in
+    rising c.self.inside.block.now c.args.self.now c.len.result body c.len.ensures.value
+
+pub returns-clause-found : goal.returns-clause-found
+returns-clause-found c =
+    let bytes = c.self.inside.block.now in
+    let items = c.args.self.now in
+    let body = body_of_view bytes items c.self.invariant c.self.view_is in
+    found_in (keys_of items) (item_key bytes) c.len.result c.args.key.now c.find_key.result (λ i within. key_in bytes items i body (omega (arith, c.len.ensures.value))) c.find_key.ensures.inside c.find_key.ensures.found
+
+pub returns-clause-absent : goal.returns-clause-absent
+returns-clause-absent c =
+    let bytes = c.self.inside.block.now in
+    let items = c.args.self.now in
+    let body = body_of_view bytes items c.self.invariant c.self.view_is in
+    absent_in (keys_of items) (item_key bytes) c.len.result c.args.key.now c.find_key.result (length-map items _ ∙ sym c.len.ensures.value) (λ i within. key_in bytes items i body (omega (arith, c.len.ensures.value))) c.find_key.ensures.absent
