@@ -5,13 +5,11 @@
 #![tactic(auto)]
 
 mod checks;
-mod laws;
 mod leaf;
 mod node;
 mod read;
 mod search;
 
-pub use laws::{leaf_bodies_are_listed, node_bodies_are_listed};
 pub use leaf::{LeafView, is_leaf_body};
 pub use node::{NodeView, is_node_body};
 pub use read::key_at;

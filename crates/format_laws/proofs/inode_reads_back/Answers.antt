@@ -1,0 +1,5 @@
+use Rattle.format_laws.specs.Items as items
+use Rattle.format_laws.proofs.inode_reads_back.Goals as goal
+
+pub returns : goal.returns
+returns c = λ v h. items.inode_reads_back v h
