@@ -1,11 +1,11 @@
 -- What one more entry does to the record, the image and the places where the last flush and superblock stand.
-use Rattle.std.proofs.Common.{◌≡◌, ◌≢◌, ◌≤◌, ◌<◌, ◌+◌, ◌++◌, ◌∷◌, [], ℕ, zero, suc, List, length, drop, Option, Some, Bool, true, false, cond, refl, sym, ◌∙◌, ap, subst, arith, slice_set, slice_index_or}
+use Rattle.std.proofs.Common.{◌≡◌, ◌≤◌, ◌+◌, ◌++◌, ◌∷◌, [], ℕ, zero, suc, List, length, drop, Some, Bool, true, false, cond, refl, sym, ◌∙◌, ap, subst, arith, slice_set, slice_index_or}
 use Rattle.std.proofs.lemmas.List.{length-append, set-get_or, drop-append-le}
-use Rattle.disk_model.specs.Disk.{Image, Call, Told, GoesOn, written, super_written}
+use Rattle.disk_model.specs.Disk.{Image, Call, GoesOn, written, super_written}
 use Rattle.disk_memory.specs.declared.entry.Place.{Place}
 use Rattle.disk_memory.specs.declared.entry.Entry.{Entry}
 use Rattle.disk_memory.specs.declared.entry.Entry.TheVariants.{Write, Super, Flush}
-use Rattle.disk_memory.specs.Record.{call_of, image_by, calls_of, reads_by, told_by, has_no_flush, has_no_super}
+use Rattle.disk_memory.specs.Record.{call_of, image_by, reads_by, told_by, has_no_flush, has_no_super}
 use Rattle.disk_memory.specs.RecordLaws.{reads_by-push, told_by-push}
 
 reads_after : (first image : Image) (es es' : List Entry) (entry : Entry) → image ≡ reads_by first es → es' ≡ es ++ entry ∷ [] → image_by image (call_of image entry) ≡ reads_by first es'

@@ -1,5 +1,5 @@
 -- The record that a disk in memory keeps, read as the calls that it tells.
-use Rattle.std.specs.Prelude.{ℕ, List, [], ◌∷◌, Bool, true, false, ◌&&◌, slice_index_or, slice_set, length, ◌≡◌}
+use Rattle.std.specs.Prelude.{List, [], ◌∷◌, Bool, true, false, slice_index_or, slice_set}
 use Rattle.disk_model.specs.Disk.{Image, Call, Told}
 use Rattle.disk_memory.specs.declared.entry.Entry.{Entry}
 use Rattle.disk_memory.specs.declared.entry.Entry.TheVariants.{Write, Super, Flush}

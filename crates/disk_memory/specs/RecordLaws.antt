@@ -1,10 +1,10 @@
 -- Lemmas on the record of a disk in memory.
-use Rattle.std.specs.Prelude.{◌≡◌, ◌≢◌, ◌≤◌, ◌<◌, ◌+◌, ◌++◌, ◌∷◌, [], ℕ, zero, suc, List, length, take, drop, All, Contains, Option, Some, None, Bool, true, false, slice_get, slice_set, slice_index_or, refl}
-use Rattle.std.proofs.Common.{sym, ◌∙◌, ap, subst, inl, inr, ⊎_elim, arith, append_assoc, get_or-set_other, get_or-set_same}
+use Rattle.std.specs.Prelude.{◌≡◌, ◌≢◌, ◌<◌, ◌++◌, ◌∷◌, [], ℕ, zero, suc, List, length, take, drop, All, Contains, true, false, slice_get, slice_set, slice_index_or, refl}
+use Rattle.std.proofs.Common.{sym, ◌∙◌, ap, subst, inl, inr, arith, get_or-set_other, get_or-set_same}
 use Rattle.std.proofs.lemmas.Bool.{cases_lt}
 use Rattle.std.proofs.lemmas.List.{length-set, set_past, take-append-drop}
-use Rattle.disk_model.specs.Disk.{IsBlock, Image, IsImage, Call, Told, Held, Leaves, GoesOn, after_call, after_calls, held_first, held_now, image_now}
-use Rattle.disk_model.specs.Laws.{slice_get-set_other}
+use Rattle.disk_model.specs.Disk.{Image, IsImage, Call, Held, Leaves, GoesOn, after_call, after_calls, held_first, held_now, image_now}
+use Rattle.disk_model.specs.Laws.{slice_get-set_other, Contains-here, Contains-there}
 use Rattle.disk_memory.specs.declared.entry.Entry.{Entry}
 use Rattle.disk_memory.specs.declared.entry.Entry.TheVariants.{Write, Super, Flush}
 use Rattle.disk_memory.specs.Record.{call_of, image_by, calls_of, reads_by, told_by, has_no_flush, has_no_super}
@@ -68,12 +68,6 @@ pub reads_by-length : (image : Image) (entries : List Entry) → length (reads_b
 reads_by-length image [] = refl
 reads_by-length image (entry ∷ entries) =
     reads_by-length (image_by image (call_of image entry)) entries ∙ image_by-length image (call_of image entry)
-
-Contains-here : {A : Type 0} (x : A) (xs : List A) → Contains (x ∷ xs) x
-Contains-here x xs = (zero, omega arith, refl)
-
-Contains-there : {A : Type 0} (y : A) (xs : List A) (x : A) → Contains xs x → Contains (y ∷ xs) x
-Contains-there y xs x (k, within, same) = (suc k, omega (arith, within), same)
 
 -- the superblock that a read gives is one that a crash may find
 record SuperIsFound (held : Held) : Type 0 where

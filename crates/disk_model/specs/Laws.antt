@@ -1,7 +1,7 @@
 -- Lemmas on what a crash may leave, for the proofs of this crate and of those above.
 use Rattle.std.specs.Prelude.{◌≡◌, ◌≢◌, ◌<◌, ◌⊎◌, ◌++◌, ◌∷◌, [], ℕ, zero, suc, List, length, Contains, Option, Some, None, Bool, true, false, slice_get, slice_set, slice_index_or, refl}
 use Rattle.std.proofs.Common.{sym, ◌∙◌, ap, subst, inl, inr, append_assoc, append-nil, arith}
-use Rattle.std.proofs.lemmas.List.{append_cancel_left}
+use Rattle.std.proofs.lemmas.List.{append_cancel_left, length-set}
 use Rattle.disk_model.specs.Disk.{Image, Call, Told, Held, Moment, Leaves, LeavesFrom, IsSince, GoesOn, EveryMoment, AtEveryMoment, Throughout, IfTold, TellsMore, Continues, HasNoSuper, Writes, after_call, during_call, after_calls, held_first, held_now, image_now}
 
 -- calls one after another
@@ -276,3 +276,63 @@ pub EveryMoment-stays : (old new : Told) (calls : List Call) (block : ℕ) → G
 EveryMoment-stays old new calls block goes other settled unwritten =
     every_moment_from_throughout (λ image. slice_get image block ≡ slice_get (image_now old) block) old new calls goes
     (Throughout-stays (held_now old) calls block (slice_get (image_now old) block) refl other settled unwritten)
+
+-- what a crash may leave, it may leave where more is pending and more superblocks may be found
+pub Leaves-wider : (less more : Held) (image : Image) → length more.image ≡ length less.image → ((at : ℕ) → at ≢ 16 → (Contains more.pending at → ⊥) → slice_get more.image at ≡ slice_get less.image at) → ((at : ℕ) → Contains less.pending at → Contains more.pending at) → ((super : List ℕ) → Contains less.supers super → Contains more.supers super) → Leaves less image → Leaves more image
+Leaves-wider less more image size same pending supers leaves = record {
+  blocks = leaves.blocks;
+  size = leaves.size ∙ sym size;
+  super = supers (slice_index_or image 16 []) leaves.super;
+  others = λ at other settled. leaves.others at other (λ is. settled (pending at is)) ∙ sym (same at other settled);
+}
+
+-- an element of a list is one where another stands in front
+pub Contains-there : {A : Type 0} (y : A) (xs : List A) (x : A) → Contains xs x → Contains (y ∷ xs) x
+Contains-there y xs x (k, within, same) = (suc k, omega (arith, within), same)
+
+-- the element in front
+pub Contains-here : {A : Type 0} (x : A) (xs : List A) → Contains (x ∷ xs) x
+Contains-here x xs = (zero, omega arith, refl)
+
+-- what a crash may leave before a call, it may leave while the call runs
+pub Leaves-before : (held : Held) (call : Call) (image : Image) → Leaves held image → Leaves (during_call held call) image
+Leaves-before held (Call.Write at bytes ok left) image leaves =
+    Leaves-wider held (during_call held (Call.Write at bytes ok left)) image refl (λ k other settled. refl) (λ k. Contains-there at held.pending k) (λ super found. found) leaves
+Leaves-before held (Call.Super bytes ok left) image leaves =
+    Leaves-wider held (during_call held (Call.Super bytes ok left)) image refl (λ k other settled. refl) (λ k pending. pending) (λ super. Contains-there bytes held.supers super) leaves
+Leaves-before held (Call.Flush ok) image leaves = leaves
+
+-- what a crash may leave after a call, it may leave while the call runs
+pub Leaves-after : (held : Held) (call : Call) (image : Image) → Leaves (after_call held call) image → Leaves (during_call held call) image
+Leaves-after held (Call.Write at bytes ok left) image leaves =
+    Leaves-wider (after_call held (Call.Write at bytes ok left)) (during_call held (Call.Write at bytes ok left)) image (sym (length-set held.image at left))
+    (λ k other settled. sym (slice_get-set_other held.image at k left (λ same. settled (subst (Contains (at ∷ held.pending)) (sym same) (Contains-here at held.pending)))))
+    (λ k pending. pending) (λ super found. found) leaves
+Leaves-after held (Call.Super bytes true left) image leaves =
+    Leaves-wider (after_call held (Call.Super bytes true left)) (during_call held (Call.Super bytes true left)) image (sym (length-set held.image 16 left))
+    (λ k other settled. sym (slice_get-set_other held.image 16 k left other))
+    (λ k pending. pending) (λ super found. subst (Contains (bytes ∷ held.supers)) (sym (Contains-single bytes super found)) (Contains-here bytes held.supers)) leaves
+Leaves-after held (Call.Super bytes false left) image leaves =
+    Leaves-wider (after_call held (Call.Super bytes false left)) (during_call held (Call.Super bytes false left)) image (sym (length-set held.image 16 left))
+    (λ k other settled. sym (slice_get-set_other held.image 16 k left other))
+    (λ k pending. pending) (λ super found. found) leaves
+Leaves-after held (Call.Flush true) image leaves =
+    Leaves-wider (after_call held (Call.Flush true)) held image refl (λ k other settled. refl) (λ k none. absurd (Contains-none k none)) (λ super found. found) leaves
+Leaves-after held (Call.Flush false) image leaves = leaves
+
+-- one call: what holds of each image that a crash may leave while it runs holds at every moment of it
+pub EveryMoment-one_call : (P : Image → Type 0) (old new : Told) (ok : Bool) (call : Call) → Continues (Some old) (Some new) ok call → ((image : Image) → Leaves (during_call (held_now old) call) image → P image) → EveryMoment old new P
+EveryMoment-one_call P old new ok call goes during =
+    EveryMoment-call P old new ok call goes
+    (λ image leaves. during image (Leaves-before (held_now old) call image leaves))
+    during
+    (λ image leaves. during image (Leaves-after (held_now old) call image leaves))
+
+-- the same, where the moments are told
+pub AtEveryMoment-one_call : (P : Image → Type 0) (old new : Option Told) (ok : Bool) (call : Call) → Continues old new ok call → IfTold old (λ told. (image : Image) → Leaves (during_call (held_now told) call) image → P image) → AtEveryMoment old new P
+AtEveryMoment-one_call P None None ok call goes during = tt
+AtEveryMoment-one_call P None (Some new) true call goes during = absurd goes
+AtEveryMoment-one_call P None (Some new) false call goes during = absurd goes
+AtEveryMoment-one_call P (Some old) None true call goes during = absurd goes
+AtEveryMoment-one_call P (Some old) None false call goes during = absurd goes
+AtEveryMoment-one_call P (Some old) (Some new) ok call goes during = EveryMoment-one_call P old new ok call goes during

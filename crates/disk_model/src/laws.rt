@@ -1,6 +1,6 @@
 //! Laws on what a crash may leave, for the proofs of the crates above.
 ghost use Rattle.std.specs.Prelude.{◌≡◌, ◌≢◌, ◌↔◌, ◌∷◌, [], ℕ, List, Contains, Bool, true, slice_get, slice_index_or};
-ghost use Rattle.disk_model.specs.Disk.{Image, Told, Call, Leaves, GoesOn, EveryMoment, Throughout, HasNoSuper, Writes, held_now, image_now};
+ghost use Rattle.disk_model.specs.Disk.{Image, Told, Call, Held, Leaves, after_call, during_call, GoesOn, EveryMoment, Throughout, HasNoSuper, Writes, held_now, image_now};
 
 /// A property of an image, for laws that hold of each.
 pub trait Property {
@@ -38,4 +38,10 @@ pub fn super_is_durable()
 pub fn unwritten_stays()
     ensures { (old new : Told) (calls : List Call) (block : ℕ) → GoesOn old new calls → block ≢ 16 → (Contains (held_now old).pending block → ⊥) → (Writes calls block → ⊥)
         → EveryMoment old new (λ image. slice_get image block ≡ slice_get (image_now old) block) }
+{}
+
+/// What a crash may leave before a call or after it, it may leave while the call runs.
+pub fn running_call_leaves_most()
+    ensures before { (held : Held) (call : Call) (image : Image) → Leaves held image → Leaves (during_call held call) image }
+    ensures after { (held : Held) (call : Call) (image : Image) → Leaves (after_call held call) image → Leaves (during_call held call) image }
 {}

@@ -1,5 +1,5 @@
-use Rattle.std.proofs.Common.{◌≡◌, ℕ, List, slice_set, sym, ◌∙◌, ap, subst}
-use Rattle.disk_model.specs.Disk.{Image, Leaves, held_now}
+use Rattle.std.proofs.Common.{sym, ◌∙◌, ap, subst}
+use Rattle.disk_model.specs.Disk.{Leaves, held_now}
 use Rattle.disk_memory.specs.declared.blocks.Blocks.{Blocks}
 use Rattle.disk_memory.specs.Record.{told_by}
 use Rattle.disk_memory.specs.RecordLaws.{Leaves-super}

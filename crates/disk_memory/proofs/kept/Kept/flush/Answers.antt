@@ -1,4 +1,4 @@
-use Rattle.std.proofs.Common.{◌≡◌, ◌+◌, length, cond, rules, arith, refl}
+use Rattle.std.proofs.Common.{◌≡◌, ◌+◌, length, cond, rules, refl}
 use Rattle.disk_memory.proofs.Records.{reads_after_flush, told_after_flush, no_flush_after_flush, no_super_more}
 use Rattle.disk_memory.proofs.kept.Kept.flush.Goals as goal
 use Rattle.disk_memory.proofs.kept.Kept.flush.Goals.{then-ok, else-ok}

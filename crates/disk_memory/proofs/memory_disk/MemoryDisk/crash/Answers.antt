@@ -1,5 +1,5 @@
-use Rattle.std.proofs.Common.{◌≡◌, ◌<◌, ◌≤◌, length, sym, ◌∙◌, ap, subst, arith}
-use Rattle.disk_model.specs.Disk.{Image, IsImage, Leaves, held_now}
+use Rattle.std.proofs.Common.{length, sym, ◌∙◌, ap, subst, arith}
+use Rattle.disk_model.specs.Disk.{IsImage, Leaves, held_now}
 use Rattle.disk_memory.specs.Record.{told_by}
 use Rattle.disk_memory.specs.RecordLaws.{leaves_as_read, image_now-told, reads_by-length}
 use Rattle.disk_memory.proofs.memory_disk.MemoryDisk.crash.Goals as goal
