@@ -1,0 +1,15 @@
+-- The fields are written one behind the other.
+use Rattle.std.proofs.Common.{refl, length, arith}
+use Rattle.blk_base.specs.Bytes.{number_bytes, zeros}
+use Rattle.blk_base.specs.Extents.{inline_bytes}
+use Rattle.item_laws.specs.Writing.{written_none, written_more, written_all}
+use Rattle.item_extent.proofs.write.put_inline.Goals as goal
+
+pub returns : goal.returns
+unfolding inline_bytes
+returns c =
+    let generation = written_more (number_bytes 8 c.args.generation) 0 (written_none c.args.into.now) c.put_u64.ensures refl in
+    let count = written_more (number_bytes 8 (length c.args.content.now)) 8 generation c.put_u64-2.ensures refl in
+    let kind = written_more (zeros 5) 16 count c.put_bytes.ensures refl in
+    let all = written_more (c.args.content.now) 21 kind c.put_bytes-2.ensures refl in
+    written_all all (omega arith)

@@ -1,0 +1,13 @@
+pub mod Writing
+pub mod Walk
+pub mod Readers
+pub mod Names
+pub mod Named
+pub mod Fields
+pub mod Spelling
+pub mod Refs
+pub mod ExtRefs
+pub mod EntrySpelling
+pub mod Apart
+pub mod Directories
+pub mod ExtentLaws
