@@ -1,0 +1,104 @@
+//! The program: a command on the image of a volume in a file.
+//!
+//! The file and the standard streams are its edge to the outside: they tell nothing of their content and count their
+//! faults. What a command does is `script_runner`'s.
+#![tactic(auto)]
+
+mod file_disk;
+mod standard;
+
+use file_disk::FileDisk;
+use script_runner::{Status, blocks_asked, drive};
+use standard::{ReaderSource, WriterSink};
+use std::alloc::AllocError;
+use std::env;
+use std::fs::{File, OpenOptions};
+use std::io;
+use std::io::ErrorKind;
+use std::process::ExitCode;
+
+/// The bytes of a block.
+const BLOCK_SIZE: u64 = 4096;
+
+const VERSION: &str = "btlog 0.1.0";
+
+const HELP: &str = "\
+usage: btlog IMAGE COMMAND
+       btlog --help | --version
+
+IMAGE is a file with the image of a volume. Commands, and what they print:
+  mkfs FSID BLOCKS SUBS   makes an empty volume       made BLOCKS SUBS
+    FSID is a uuid, as 00000000-0000-0000-0000-000000000001
+    BLOCKS is 4096 to 65536, in blocks of 4096 bytes; SUBS is 1
+    an image that isn't there is made
+
+Other answers, and the exit status of each:
+  0  the command was done
+  1  usage    the words are no command
+  4  disk     the image can't be opened or made, or the disk failed
+  6           standard output failed
+  7  memory   no memory
+  8  range    FSID, BLOCKS or SUBS is out of its form or range, or the image is too small";
+
+fn main(rt: HostRuntime) -> ExitCode {
+    ExitCode::from(run(&rt))
+}
+
+/// Does what the program's words ask, and gives the exit status.
+fn run(rt: &HostRuntime) -> u8 {
+    match words(rt) {
+        Ok(words) => match words.as_slice() {
+            [] => answer(rt, "usage", Status::Usage),
+            [word] if word.as_str() == "--help" => answer(rt, HELP, Status::Done),
+            [word] if word.as_str() == "--version" => answer(rt, VERSION, Status::Done),
+            [image, command @ ..] => on_image(rt, image.as_str(), command),
+        },
+        Err(e) if e.kind() == ErrorKind::OutOfMemory => answer(rt, "memory", Status::Memory),
+        Err(_) => answer(rt, "usage", Status::Usage),
+    }
+}
+
+/// The program's words without its own name. An error is want of memory, or a word that isn't UTF-8.
+fn words(rt: &HostRuntime) -> io::Result<Vec<String>> {
+    let mut words = Vec::new(rt.alloc());
+    for word in env::args(rt)?.skip(1) {
+        words.push(word).map_err(AllocError::from)?;
+    }
+    Ok(words)
+}
+
+/// Prints a line, and gives the exit status.
+fn answer(rt: &HostRuntime, text: &str, status: Status) -> u8 {
+    match rt.println(text) {
+        Err(_) if status == Status::Done => Status::WriteFault.code(),
+        _ => status.code(),
+    }
+}
+
+/// Runs a command on the image in a file.
+fn on_image(rt: &HostRuntime, path: &str, command: &[String]) -> u8 {
+    match open_disk(rt, path, command) {
+        Ok(mut disk) => {
+            let mut from = ReaderSource::new(rt.stdin());
+            let mut to = WriterSink::new(rt.stdout());
+            drive(rt.alloc(), command, &mut from, &mut to, &mut disk).code()
+        }
+        Err(_) => answer(rt, "disk", Status::DiskFault),
+    }
+}
+
+/// Opens the image. For a `mkfs` with a number of blocks that a volume may have, a file that isn't there is made.
+fn open_disk(rt: &HostRuntime, path: &str, command: &[String]) -> io::Result<FileDisk> {
+    match OpenOptions::new().read(true).write(true).open(rt, path) {
+        Ok(file) => FileDisk::new(file),
+        Err(e) if e.kind() == ErrorKind::NotFound => match blocks_asked(command) {
+            Some(blocks) => {
+                let file = File::create_new(rt, path)?;
+                file.set_len(u64::from(blocks) * BLOCK_SIZE)?;
+                FileDisk::new(file)
+            }
+            None => Err(e),
+        },
+        Err(e) => Err(e),
+    }
+}

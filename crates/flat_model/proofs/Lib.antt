@@ -1,0 +1,17 @@
+pub mod Lists
+pub mod NameSets
+pub mod Maps
+pub mod Ways
+pub mod Edits
+pub mod Fresh
+pub mod OneName
+pub mod Sound
+pub mod Moves
+pub mod Swaps
+pub mod Filled
+pub mod Steps
+pub mod Histories
+pub mod Tables
+pub mod Views
+pub mod Bare
+pub mod Placed

@@ -1,0 +1,14 @@
+pub mod Records
+pub mod Names
+pub mod Lengths
+pub mod Volume
+pub mod Contents
+pub mod Coherent
+pub mod Walk
+pub mod Operations
+pub mod Step
+pub mod Running
+pub mod Codes
+pub mod View
+pub mod Building
+pub mod Unmarked

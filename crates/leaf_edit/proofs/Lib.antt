@@ -1,0 +1,16 @@
+pub mod Amounts
+pub mod Appending
+pub mod Crowd
+pub mod Cutting
+pub mod Editing
+pub mod Fronts
+pub mod Headers
+pub mod Inserting
+pub mod Packing
+pub mod Parts
+pub mod Passing
+pub mod Placing
+pub mod Removing
+pub mod Rises
+pub mod Sealing
+pub mod Shifts

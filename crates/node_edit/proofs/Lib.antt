@@ -1,0 +1,3 @@
+pub mod Editing
+pub mod Edits
+pub mod Parts

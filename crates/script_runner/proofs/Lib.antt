@@ -1,0 +1,7 @@
+pub mod WordLemmas
+pub mod UuidLemmas
+pub mod SinkLemmas
+pub mod CrashLemmas
+pub mod VolumeLemmas
+pub mod CommandLemmas
+pub mod ItemLemmas

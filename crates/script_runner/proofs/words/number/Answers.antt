@@ -1,0 +1,21 @@
+use Rattle.std.proofs.Common.{rules, ◌≡◌, ◌≤◌, ◌<◌, ℕ, Some, IfSome, IsNone, ◌+◌, ◌-◌, ◌*◌, length, ◌/◌, ◌%◌, Bool, true, false, nat_eq, nat_lt, List, [], ◌∷◌, ◌++◌, slice_index_or, slice_set, bit_and, bit_or, inl, inr, Fits, w8, w32, w64, Bor, MutBor, arith}
+use Rattle.script_runner.specs.Words.{IsNumber, IsUuidText}
+use Rattle.script_runner.proofs.WordLemmas.{number_is_above, number_is_read}
+use Rattle.script_runner.proofs.words.number.Goals as goal
+use Rattle.script_runner.proofs.words.number.Goals.{in_default, in_default-2}
+
+-- src/words.rt:24:13
+pub returns-then-value-from-clause-none : goal.returns-then-value-from-clause-none
+returns-then-value-from-clause-none c = λ _ value is.
+    number_is_above c.args.word.now c.args.most c.loop-digit.value c.loop-digit.digit-index value (omega arith) c.loop-digit.invariant.spells (omega arith) is
+
+-- src/words.rt:8:1
+pub returns-clause-number : goal.returns-clause-number
+returns-clause-number c =
+    number_is_read c.args.word.now c.loop-digit.digit-index c.loop-digit.value c.loop-digit-test.false
+    (elim c.if-word-lt2.branch [ in_default w ↦ omega arith | in_default-2 w ↦ omega arith ])
+    (elim c.if-word-lt2.branch [
+      | in_default w ↦ inl (omega arith)
+      | in_default-2 w ↦ inr (omega (arith, c.loop-digit.invariant.digits 0 (omega arith)))
+    ])
+    c.loop-digit.invariant.digits c.loop-digit.invariant.spells

@@ -1,0 +1,35 @@
+ghost use Rattle.std.specs.Prelude.{◌≡◌};
+ghost use Rattle.script_runner.specs.Commands.{code_of};
+
+/// How a command ended.
+#[derive(Clone, Copy, Debug, PartialEq, Eq)]
+pub enum Status {
+    /// What the command asked was done, and its text was written.
+    Done,
+    /// The words are no command.
+    Usage,
+    /// The disk failed.
+    DiskFault,
+    /// The sink failed.
+    WriteFault,
+    /// No memory.
+    Memory,
+    /// A word of `mkfs` is out of its form or its range.
+    MkfsRange,
+}
+
+impl Status {
+    /// The exit status of a program whose command ended so (own).
+    pub fn code(&self) -> u8
+        ensures { result ≡ code_of self.now }
+    {
+        match self {
+            Status::Done => 0,
+            Status::Usage => 1,
+            Status::DiskFault => 4,
+            Status::WriteFault => 6,
+            Status::Memory => 7,
+            Status::MkfsRange => 8,
+        }
+    }
+}

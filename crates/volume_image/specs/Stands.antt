@@ -1,0 +1,100 @@
+-- Which image stands for which volume.
+use Rattle.std.specs.Prelude.{◌≡◌, ◌≤◌, ◌-◌, ◌/◌, ℕ, List, [], ◌∷◌, ◌++◌, length, map, All, slice_get, slice_index_or}
+use Rattle.std.specs.FinMap.{entries}
+use Rattle.blk_base.specs.declared.key.Want.{Want}
+use Rattle.blk_base.specs.Bytes.{zeros}
+use Rattle.blk_base.specs.Address.{IsAllowed}
+use Rattle.blk_base.specs.Keys.{root_tree, root_item}
+use Rattle.blk_base.specs.Leaf.{Item}
+use Rattle.blk_base.specs.Superblock.{SuperValue, IsSuper}
+use Rattle.blk_base.specs.Items.{RootValue, IsRoot}
+use Rattle.flat_model.specs.Volume.{Subvolume, Volume, subvolume_ids}
+use Rattle.flat_model.specs.Coherent.{IsCoherentVolume}
+use Rattle.volume_image.specs.Tree.{Image, IsTree, NoneTwice}
+use Rattle.volume_image.specs.Subvolume.{Data, AreItemsOf, data_addresses, make_key}
+
+-- the block of the superblock; a disk without it counts as zeros there ("Superblock")
+abbrev pub super_block : Image → List ℕ
+super_block image = slice_index_or image 16 (zeros 4096)
+
+-- what stands at the byte address of a data block
+abbrev pub data_of : Image → Data
+data_of image at = slice_get image (at / 4096)
+
+-- how the root tree is read: the superblock's generation, owner 1
+abbrev pub root_want : SuperValue → Want
+root_want super = record { fsid = super.fsid; at = record { 0 = super.root }; generation = super.generation; owner = root_tree; level = super.root_level }
+
+-- how a subvolume's tree is read: the root item's generation, and the subvolume's id as owner
+abbrev pub sub_want : SuperValue → ℕ → RootValue → Want
+sub_want super id root = record { fsid = super.fsid; at = record { 0 = root.at }; generation = root.generation; owner = id; level = root.level }
+
+-- The root tree has a root item for each of these subvolumes, in order, and nothing else ("ROOT_ITEM").
+abbrev pub AreRootItems : List Item → List ℕ → List RootValue → Type 0
+AreRootItems [] [] [] = Unit {0}
+AreRootItems (item ∷ items) (id ∷ ids) (root ∷ roots) = (item.0 ≡ make_key id root_item 0) × IsRoot item.1 root × AreRootItems items ids roots
+AreRootItems items ids roots = ⊥
+
+-- A subvolume's tree has its items, and its data blocks have addresses that are allowed; all of these addresses are its reach.
+pub record IsSubvolumeAt (image : Image) (super : SuperValue) (id : ℕ) (root : RootValue) (sub : Subvolume) (reach : List ℕ) : Type 0 where
+  pub items : List Item
+  pub tree_reach : List ℕ
+  pub tree : IsTree image super.blocks (sub_want super id root) items tree_reach
+  pub same : AreItemsOf items (data_of image) sub
+  pub allowed : All (IsAllowed super.blocks) (data_addresses items)
+  pub reached : reach ≡ tree_reach ++ data_addresses items
+
+-- each root is the tree of its subvolume; the reaches stand one behind the other
+abbrev pub AreSubvolumesAt : Image → SuperValue → List RootValue → List (ℕ × Subvolume) → List ℕ → Type 0
+AreSubvolumesAt image super [] [] reach = reach ≡ []
+AreSubvolumesAt image super (root ∷ roots) (sub ∷ subs) reach =
+    (near : List ℕ) × (far : List ℕ) × IsSubvolumeAt image super sub.0 root sub.1 near × AreSubvolumesAt image super roots subs far × (reach ≡ near ++ far)
+AreSubvolumesAt image super roots subs reach = ⊥
+
+-- What a superblock commits to, apart from a log: the volume of its trees. `reach` has the byte addresses of all their blocks and of their data, each once.
+pub record IsCommitted (image : Image) (super : SuperValue) (volume : Volume) (reach : List ℕ) : Type 0 where
+  pub items : List Item
+  pub roots : List RootValue
+  pub root_reach : List ℕ
+  pub sub_reach : List ℕ
+  pub root_tree : IsTree image super.blocks (root_want super) items root_reach
+  pub least : 1 ≤ length roots
+  pub most : length roots ≤ 16
+  pub root_items : AreRootItems items (subvolume_ids (length roots)) roots
+  pub ids : map (λ (entry : ℕ × Subvolume). entry.0) (entries volume) ≡ subvolume_ids (length roots)
+  pub subvolumes : AreSubvolumesAt image super roots (entries volume) sub_reach
+  pub reached : reach ≡ root_reach ++ sub_reach
+  pub once : NoneTwice reach
+  pub coherent : IsCoherentVolume volume
+
+-- the blocks that never count as free (own)
+abbrev pub kept_back : ℕ
+kept_back = 82
+
+-- what a mount of a volume without a log needs (own)
+abbrev pub mount_need : ℕ
+mount_need = 116
+
+-- the blocks that are free where so many addresses are in use
+abbrev pub free_of : ℕ → ℕ → ℕ
+free_of blocks used = blocks - kept_back - used
+
+-- The image stands for the volume by what these addresses have, and the superblock: it has no log, and the volume is what it commits to. An image with a log
+-- stands for nothing yet.
+pub record StandsBy (image : Image) (volume : Volume) (reach : List ℕ) : Type 0 where
+  pub super : SuperValue
+  pub spelled : IsSuper (super_block image) (length image) super
+  pub committed : IsCommitted image super volume reach
+  pub no_log : super.log_root ≡ 0
+  pub room : mount_need ≤ free_of super.blocks (length reach)
+
+-- the image stands for the volume
+pub record Stands (image : Image) (volume : Volume) : Type 0 where
+  pub reach : List ℕ
+  pub by_reach : StandsBy image volume reach
+
+-- two images have the same superblock, the same number of blocks, and the same block at each of these addresses
+pub record AgreesOn (reach : List ℕ) (one two : Image) : Type 0 where
+  pub size : length one ≡ length two
+  pub super : slice_get one 16 ≡ slice_get two 16
+  pub blocks : All (λ at. slice_get one (at / 4096) ≡ slice_get two (at / 4096)) reach
