@@ -81,7 +81,9 @@ impl Disk for FileDisk {
 
     // Durable at Ok: written, and then synced.
     fn write_super(&mut self, from: &Block) -> Result<(), DiskFailed> {
-        let done = self.file.write_all_at(from, u64::from(SUPER_BLOCK) * BLOCK_SIZE);
+        let done = self
+            .file
+            .write_all_at(from, u64::from(SUPER_BLOCK) * BLOCK_SIZE);
         self.outcome(done)?;
         self.flush()
     }

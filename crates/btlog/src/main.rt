@@ -11,11 +11,10 @@ use file_disk::FileDisk;
 use script_runner::{Status, blocks_asked, drive};
 use standard::{ReaderSource, WriterSink};
 use std::alloc::AllocError;
-use std::env;
 use std::fs::{File, OpenOptions};
-use std::io;
 use std::io::ErrorKind;
 use std::process::ExitCode;
+use std::{env, io};
 
 /// The bytes of a block.
 const BLOCK_SIZE: u64 = 4096;

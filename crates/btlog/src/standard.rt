@@ -1,4 +1,4 @@
-ghost use Rattle.std.specs.Prelude.{◌≡◌, ◌≤◌};
+ghost use Rattle.std.specs.Prelude.{◌<◌, length};
 
 use io_edge::{Sink, SinkFailed, Source, SourceFailed};
 use std::io::{Read, Write};
@@ -67,5 +67,80 @@ impl<W: Write + Drop> Sink for WriterSink<W> {
             }
             Ok(count) => Ok(count),
         }
+    }
+}
+
+#[cfg(test)]
+mod tests {
+    use super::*;
+    use std::io;
+    use std::io::ErrorKind;
+    use std::test::Fail;
+
+    /// Takes so many bytes, and then none.
+    #[derive(Drop)]
+    struct FullWriter {
+        room: usize,
+    }
+
+    impl Write for FullWriter {
+        fn write(&mut self, buf: &[u8]) -> io::Result<usize> {
+            let count = buf.len().min(self.room);
+            self.room -= count;
+            Ok(count)
+        }
+
+        fn flush(&mut self) -> io::Result<()> {
+            Ok(())
+        }
+    }
+
+    /// Gives one byte, and then fails.
+    #[derive(Drop)]
+    struct BrokenReader {
+        gave: bool,
+    }
+
+    impl Read for BrokenReader {
+        fn read(&mut self, buf: &mut [u8]) -> io::Result<usize> {
+            if self.gave || buf.is_empty() {
+                return Err(io::Error::from(ErrorKind::Other));
+            }
+            self.gave = true;
+            buf[0] = 7;
+            Ok(1)
+        }
+    }
+
+    fn put<K: Sink>(sink: &mut K, bytes: &[u8]) -> Result<usize, SinkFailed>
+        requires { 0 < length bytes.now }
+    {
+        sink.write(bytes)
+    }
+
+    fn next<S: Source>(source: &mut S, into: &mut [u8]) -> Result<usize, SourceFailed>
+        requires { 0 < length into.old }
+    {
+        source.read(into)
+    }
+
+    #[test]
+    fn an_empty_write_is_a_fault(rt: HostRuntime) -> Result<(), Fail> {
+        let mut sink = WriterSink::new(FullWriter { room: 3 });
+        assert_eq!(rt; put(&mut sink, b"abcd"), Ok(3));
+        assert_eq!(rt; put(&mut sink, b"d"), Err(SinkFailed));
+        assert_eq!(rt; sink.faults, 1);
+        Ok(())
+    }
+
+    #[test]
+    fn a_reader_fails_in_mid_stream(rt: HostRuntime) -> Result<(), Fail> {
+        let mut source = ReaderSource::new(BrokenReader { gave: false });
+        let mut into = [1u8, 2, 3];
+        assert_eq!(rt; next(&mut source, &mut into), Ok(1));
+        assert_eq!(rt; into.as_slice(), [7, 2, 3].as_slice());
+        assert_eq!(rt; next(&mut source, &mut into), Err(SourceFailed));
+        assert_eq!(rt; source.faults, 1);
+        Ok(())
     }
 }

@@ -1,15 +1,14 @@
 -- The bare volume, and lists of names without their marks.
 use Rattle.std.proofs.Common.{◌≡◌, ℕ, zero, suc, ◌+◌, Bool, true, false, cond, List, [], ◌∷◌, ◌++◌, map, length, Option, Some, None, refl, sym, ap, subst, ◌∙◌, arith}
-use Rattle.std.specs.Option.{option_map}
-use Rattle.std.specs.Ordering.{nat_cmp, eq_by_cmp}
+use Rattle.std.specs.Ordering.{nat_cmp}
 use Rattle.std.specs.Cmp.{nat_cmp_total}
 use Rattle.std.specs.List.{range_with_len, fold}
-use Rattle.std.specs.FinMap.{FinMap, get, insert, empty, from_entries, entries, keys, entries-insert, len-entries, len-empty, len, same_map, nat_cmp-IsAntisymmetric}
+use Rattle.std.specs.FinMap.{FinMap, get, empty, from_entries, entries, keys, entries-insert, len-entries, len-empty, len, same_map, nat_cmp-IsAntisymmetric}
 use Rattle.std.specs.FinMap.Entries.{put}
 use Rattle.std.proofs.lemmas.List.FromFn.{map-range_with_len_more}
 use Rattle.flat_model.specs.declared.view.NameAt.{NameAt}
 use Rattle.flat_model.specs.Records.{InodeRecord, new_dir}
-use Rattle.flat_model.specs.Volume.{Subvolume, Volume, RunSub, RunVolume, SubMarks, bare_subvolume, bare_volume, bare_marks, marks_at_mount, mounted, subvolume_ids, note_ino}
+use Rattle.flat_model.specs.Volume.{Subvolume, RunSub, bare_subvolume, bare_volume, bare_marks, marks_at_mount, mounted, subvolume_ids, note_ino}
 use Rattle.flat_model.specs.Building.{bare_run}
 use Rattle.flat_model.specs.Unmarked.{unmarked}
 use Rattle.std.specs.Bool.{nat_eq}

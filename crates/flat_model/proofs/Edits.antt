@@ -1,19 +1,19 @@
 -- Edits of a subvolume that leave it coherent.
-use Rattle.std.proofs.Common.{◌≡◌, ◌≢◌, ℕ, ◌<◌, ◌≤◌, ◌+◌, Bool, true, false, cond, not, ◌&&◌, List, [], ◌∷◌, length, Option, Some, None, refl, sym, ap, subst, ◌∙◌, arith, inl, inr, ◌⊎◌}
+use Rattle.std.proofs.Common.{◌≡◌, ◌≢◌, ℕ, ◌≤◌, ◌+◌, Bool, true, false, cond, not, List, length, Some, refl, sym, ap, subst, ◌∙◌, arith, inl, inr, ◌⊎◌}
 use Rattle.std.specs.Bool.{nat_eq}
 use Rattle.std.specs.List.{Contains, filter, sum_by}
 use Rattle.std.specs.FinMap.{get, insert, remove}
-use Rattle.std.proofs.lemmas.Bool.{true≢false, cases_eq, eqb-true, eqb-false, eq-eqb, ne_eqb}
+use Rattle.std.proofs.lemmas.Bool.{cases_eq, eqb-true, eqb-false, eq-eqb, ne_eqb}
 use Rattle.flat_model.specs.Records.{InodeRecord, LinkRecord, FileInode, DirInode, LinkInode, is_dir_record, attributes_of}
-use Rattle.flat_model.specs.Names.{FlatName, is_name_set, is_same_name, add_name, remove_name, leads_to, links_of, names_of}
+use Rattle.flat_model.specs.Names.{FlatName, is_name_set, is_same_name, remove_name, leads_to, links_of, names_of}
 use Rattle.flat_model.specs.Lengths.{most_item_bytes, ref_item_length, extref_item_length, dir_item_length, xattr_item_length, link_extent_length}
 use Rattle.flat_model.specs.Volume.{Subvolume, is_dir_at, is_dir_there}
-use Rattle.flat_model.specs.Coherent.{IsCoherent, ItemsFit, KeepsLimits, IsLinkCount, IsInoNumber, IsIndexNumber, IsNameBytes, LeadsUp}
+use Rattle.flat_model.specs.Coherent.{IsCoherent, KeepsLimits, IsLinkCount, IsInoNumber, IsIndexNumber, IsNameBytes, LeadsUp}
 use Rattle.flat_model.specs.Operations.{with_record, without_name}
-use Rattle.flat_model.proofs.Lists.{contains_head, contains_tail, contains_none, contains_cases, contains_filter, filter_contains, filter_swaps, filter_empties}
+use Rattle.flat_model.proofs.Lists.{contains_none, contains_filter}
 use Rattle.flat_model.proofs.Maps.{some_same, some_none, get_insert_same, get_insert_other, get_remove_same, get_remove_other, insert_cases, remove_cases, sum_filter_le}
 use Rattle.flat_model.proofs.NameSets.{add_name_cases, remove_name_gives, remove_name_keeps, is_name_set_remove, filter_remove_name, filter_remove_other, length_remove_name}
-use Rattle.flat_model.proofs.Ways.{way_rerouted, dir_record, dir_link_count, dir_of_name, root_dir}
+use Rattle.flat_model.proofs.Ways.{way_rerouted, dir_record, dir_link_count}
 
 -- a symlink that keeps its limits fits into a leaf
 pub link_fits : (link : LinkRecord) → KeepsLimits (LinkInode link) → link_extent_length link ≤ most_item_bytes

@@ -1,5 +1,5 @@
 -- Writes and truncates leave a file within its limits, and edits of attributes leave them within theirs.
-use Rattle.std.proofs.Common.{◌≡◌, ◌≢◌, ℕ, ◌<◌, ◌≤◌, ◌+◌, ◌-◌, ◌*◌, ◌/◌, ◌%◌, min, max, Bool, true, false, cond, not, ◌&&◌, List, [], ◌∷◌, ◌++◌, map, take, length, replicate, get_or, Option, Some, None, refl, sym, ap, subst, ◌∙◌, arith, inl, inr, ◌⊎◌}
+use Rattle.std.proofs.Common.{◌≡◌, ◌≢◌, ℕ, ◌<◌, ◌≤◌, ◌+◌, ◌-◌, ◌*◌, ◌/◌, ◌%◌, max, Bool, true, false, cond, not, ◌&&◌, List, [], ◌∷◌, take, length, replicate, get_or, Some, None, refl, sym, ap, subst, ◌∙◌, arith, inl, inr, ◌⊎◌}
 use Rattle.std.specs.declared.cmp.Ordering.{Ordering}
 use Rattle.std.specs.declared.cmp.Ordering.TheVariants.{Less, Equal, Greater}
 use Rattle.std.specs.Bool.{nat_eq, nat_lt, nat_le}
@@ -9,11 +9,11 @@ use Rattle.std.specs.Cmp.{nat_cmp_total}
 use Rattle.std.specs.Cmp.Lexicographic.{slice_cmp, nat_list_cmp_total}
 use Rattle.std.specs.List.{Contains, All, fold, filter, sum_by, range_with_len}
 use Rattle.std.specs.FinMap.{FinMap, get, insert, remove, retain_keys, entries, entries_sorted, entries-insert, from_sorted, entries-from_sorted, get-from_sorted, get-insert, get-remove, get-entries, get-retain_keys, same_map, nat_cmp-IsAntisymmetric, slice_cmp-IsAntisymmetric}
-use Rattle.std.specs.FinMap.Entries.{put, where_key, by_order, find, is_sorted, is_sorted-where_key, find-where_key}
+use Rattle.std.specs.FinMap.Entries.{put, where_key, by_order, is_sorted-where_key, find-where_key}
 use Rattle.std.proofs.lemmas.Bool.{true≢false, cases_eq, cases_Bool, and_parts, and_from, eqb-true, eq-eqb, ne_eqb, ltb-true, ltb-false, leb-true, lt-ltb, le-ltb, not-true}
-use Rattle.std.proofs.lemmas.Nat.{div-add-mod', div_below, mod_below, div-mul-add, mod-mul-add, le-div}
-use Rattle.std.proofs.lemmas.List.{length-append, length-replicate, length-take-le, get_or-replicate, get_or-append_right, get_or_past}
-use Rattle.std.proofs.lemmas.List.Elements.{All-map, All-append, All-take, All-replicate, All-from_get_or, All-get_or}
+use Rattle.std.proofs.lemmas.Nat.{div-add-mod', mod_below, div-mul-add, mod-mul-add}
+use Rattle.std.proofs.lemmas.List.{length-append, length-replicate, length-take-le, get_or-replicate, get_or-append_right}
+use Rattle.std.proofs.lemmas.List.Elements.{All-map, All-append, All-take, All-replicate}
 use Rattle.std.proofs.lemmas.List.FromFn.{length-range_with_len, get_or-range_with_len, length-map-range_with_len, get_or-map-range_with_len}
 use Rattle.std.proofs.lemmas.List.Sums.{sum_by-cons}
 use Rattle.blk_base.specs.Crc.{name_hash_of}

@@ -1,21 +1,21 @@
 -- Facts on the numbers beside a subvolume, on items that fit, and on refusals.
-use Rattle.std.proofs.Common.{◌≡◌, ◌≢◌, ℕ, ◌<◌, ◌≤◌, ◌+◌, ◌^◌, max, Bool, true, false, cond, not, ◌&&◌, ◌||◌, List, [], ◌∷◌, length, Option, Some, None, refl, sym, ap, subst, ◌∙◌, arith, inl, inr, ◌⊎◌}
-use Rattle.std.specs.Bool.{nat_eq, nat_le, nat_lt}
+use Rattle.std.proofs.Common.{◌≡◌, ◌≢◌, ℕ, ◌≤◌, ◌+◌, ◌^◌, max, Bool, true, false, cond, not, ◌&&◌, List, [], ◌∷◌, Some, None, refl, sym, ap, subst, ◌∙◌, arith, inl, inr, ◌⊎◌}
+use Rattle.std.specs.Bool.{nat_eq, nat_lt}
 use Rattle.std.specs.Option.{unwrap_or}
-use Rattle.std.specs.List.{Contains, filter, sum_by, list_any}
-use Rattle.std.specs.FinMap.{get, insert}
-use Rattle.std.proofs.lemmas.Bool.{true≢false, cases_eq, eqb-true, and_parts, and_left, and_right, or_parts, ltb-false, leb-true, leb-false, not-true, eq-eqb, ne_eqb, cases_Bool, false_from_ne_true}
+use Rattle.std.specs.List.{Contains, filter, sum_by}
+use Rattle.std.specs.FinMap.{get}
+use Rattle.std.proofs.lemmas.Bool.{cases_eq, eqb-true, and_parts, and_left, and_right, or_parts, ltb-false, leb-true, not-true, ne_eqb, cases_Bool}
 use Rattle.blk_base.specs.Crc.{name_hash_of, extref_hash_of}
 use Rattle.flat_model.specs.declared.answer.Answer.{Answer}
 use Rattle.flat_model.specs.Records.{InodeRecord}
-use Rattle.flat_model.specs.Names.{FlatName, is_name_set, add_name, remove_name}
-use Rattle.flat_model.specs.Lengths.{most_item_bytes, most_ref_bytes, ref_length, extref_length, entry_length, ref_item_length, extref_item_length, dir_item_length}
-use Rattle.flat_model.specs.Volume.{Subvolume, SubMarks, RunSub, last_index_in, note_name, note_ino, is_dir_at, is_dir_there}
-use Rattle.flat_model.specs.Coherent.{IsCoherent, IsIndexNumber}
+use Rattle.flat_model.specs.Names.{FlatName, is_name_set, add_name}
+use Rattle.flat_model.specs.Lengths.{most_item_bytes, ref_length, extref_length, entry_length, ref_item_length, extref_item_length, dir_item_length}
+use Rattle.flat_model.specs.Volume.{Subvolume, SubMarks, RunSub, last_index_in, note_name}
+use Rattle.flat_model.specs.Coherent.{IsIndexNumber}
 use Rattle.flat_model.specs.Step.{IsNextIndex}
 use Rattle.flat_model.specs.Operations.{Outcome, first_answer, unchanged, unless_refused, is_crowded, has_room_near}
 use Rattle.flat_model.specs.Running.{AreCovered, IsSound}
-use Rattle.flat_model.proofs.Lists.{contains_none, contains_cases, filter_contains}
+use Rattle.flat_model.proofs.Lists.{filter_contains}
 use Rattle.flat_model.proofs.Maps.{some_none, get_insert_same, get_insert_other}
 use Rattle.flat_model.proofs.NameSets.{filter_add_name, filter_add_other, sum_by_add_name, is_name_set_filter, add_name_cases, is_name_set_add}
 use Rattle.flat_model.proofs.Edits.{NamesFit}

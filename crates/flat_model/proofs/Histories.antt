@@ -1,18 +1,17 @@
 -- Volumes at the mount and in histories.
-use Rattle.std.proofs.Common.{◌≡◌, ◌≢◌, ℕ, zero, suc, ◌<◌, ◌≤◌, ◌+◌, max, Bool, true, false, cond, List, [], ◌∷◌, map, take, Option, Some, None, refl, sym, ap, subst, ◌∙◌, arith, inl, inr, ◌⊎◌}
+use Rattle.std.proofs.Common.{◌≡◌, ℕ, zero, suc, ◌≤◌, max, true, false, cond, List, [], ◌∷◌, map, take, Option, Some, None, refl, sym, ap, subst, ◌∙◌, arith, inl, inr}
 use Rattle.std.specs.Option.{unwrap_or, option_map}
 use Rattle.std.specs.Ordering.{nat_cmp, is_eq, eq_by_cmp}
 use Rattle.std.specs.Cmp.{nat_cmp_total}
 use Rattle.std.specs.List.{Contains, fold}
 use Rattle.std.specs.FinMap.{FinMap, get, entries, keys, empty, from_entries, get-from_entries, get-entries, get-empty, same_map, nat_cmp-IsAntisymmetric}
 use Rattle.std.specs.FinMap.Entries.{find}
-use Rattle.std.proofs.lemmas.Bool.{true≢false, cases_eq, cases_Bool}
-use Rattle.flat_model.specs.Records.{InodeRecord}
+use Rattle.std.proofs.lemmas.Bool.{cases_eq}
 use Rattle.flat_model.specs.Names.{FlatName}
 use Rattle.flat_model.specs.Volume.{Subvolume, Volume, SubMarks, RunSub, RunVolume, last_index_in, note_name, note_ino, bare_marks, marks_at_mount, mounted, volume_of}
 use Rattle.flat_model.specs.Coherent.{IsCoherent, IsCoherentVolume}
-use Rattle.flat_model.specs.Step.{Operated, after_one, after_all, volume_at, IsHistory}
-use Rattle.flat_model.specs.Running.{AreCovered, IsSound, IsSoundVolume}
+use Rattle.flat_model.specs.Step.{Operated, after_one, volume_at, IsHistory}
+use Rattle.flat_model.specs.Running.{IsSound, IsSoundVolume}
 use Rattle.flat_model.proofs.Lists.{contains_head, contains_tail, contains_none, contains_cases}
 use Rattle.flat_model.proofs.Maps.{some_same, some_none}
 use Rattle.flat_model.proofs.Fresh.{note_raises, last_index_note_same, last_index_note_other}

@@ -15,3 +15,4 @@ pub mod Tables
 pub mod Views
 pub mod Bare
 pub mod Placed
+pub mod Choices

@@ -1,24 +1,22 @@
 -- rename and exchange leave a subvolume in a run sound.
-use Rattle.std.proofs.Common.{◌≡◌, ◌≢◌, ℕ, ◌<◌, ◌≤◌, ◌+◌, ◌^◌, max, Bool, true, false, cond, not, ◌&&◌, ◌||◌, List, [], ◌∷◌, length, Option, Some, None, refl, sym, ap, subst, ◌∙◌, arith, inl, inr, ◌⊎◌}
-use Rattle.std.specs.Bool.{nat_eq}
+use Rattle.std.proofs.Common.{◌≡◌, ◌≢◌, ℕ, ◌<◌, ◌^◌, true, false, not, ◌&&◌, List, [], ◌∷◌, Option, Some, None, refl, sym, ap, subst, ◌∙◌, arith, inl, inr, ◌⊎◌}
 use Rattle.std.specs.Option.{unwrap_or}
-use Rattle.std.specs.List.{Contains, filter}
+use Rattle.std.specs.List.{Contains}
 use Rattle.std.specs.FinMap.{get}
 use Rattle.std.proofs.lemmas.Bool.{true≢false, cases_eq, cases_Bool, eq-eqb, or_parts, leb-false}
 use Rattle.flat_model.specs.Records.{InodeRecord}
-use Rattle.flat_model.specs.Names.{FlatName, is_name_set, is_same_name, add_name, remove_name, links_of, is_in_slot}
-use Rattle.flat_model.specs.Volume.{Subvolume, SubMarks, RunSub, note_name, last_index_in, is_dir_at, is_dir_there, is_other_there}
+use Rattle.flat_model.specs.Names.{FlatName, is_same_name, add_name, remove_name, links_of, is_in_slot}
+use Rattle.flat_model.specs.Volume.{Subvolume, RunSub, is_dir_at, is_dir_there}
 use Rattle.flat_model.specs.Coherent.{IsCoherent, IsLinkCount, LeadsUp}
-use Rattle.flat_model.specs.Walk.{WalkEnd, AtRoot, AtSlot, Missing, Blocked, walk, ino_at, record_at, dir_of, is_absent, is_dirless, is_blocked, is_root, is_one_inode, is_below}
-use Rattle.flat_model.specs.Operations.{Outcome, rename, rename_rows, rename_done, exchange, exchange_rows, exchange_done, new_name, do_collide, is_crowded, add_names, with_made, without_entry, without_name, names_without, has_entries}
+use Rattle.flat_model.specs.Walk.{WalkEnd, AtSlot, walk, ino_at, record_at, is_absent, is_blocked, is_root, is_one_inode, is_below}
+use Rattle.flat_model.specs.Operations.{Outcome, rename, rename_rows, rename_done, new_name, do_collide, without_entry, names_without, has_entries}
 use Rattle.flat_model.specs.Step.{IsPath, IsNextIndex}
-use Rattle.flat_model.specs.Running.{AreCovered, IsSound}
-use Rattle.flat_model.proofs.Lists.{contains_head, contains_tail, contains_none, contains_cases}
+use Rattle.flat_model.specs.Running.{IsSound}
 use Rattle.flat_model.proofs.NameSets.{add_name_cases, add_name_has, add_name_keeps, remove_name_gives, remove_name_keeps, is_name_set_add, is_name_set_remove, is_same_name_true}
-use Rattle.flat_model.proofs.Edits.{IsFit, Rewires, coherent_rewired, coherent_without_name, without_gives, without_keeps, links_without_same, links_without_other, names_fit, names_fit_without}
-use Rattle.flat_model.proofs.Ways.{EndsAtSlot, walk_slot, way_kept, way_names, way_rerouted, way_avoids, way_avoids_own, dir_record, dir_of_name, find_some, is_in_slot_gives}
-use Rattle.flat_model.proofs.Fresh.{outcome_cases, covered_add, covered_part, index_is_fresh, index_in_range, note_raises, last_index_note_same, names_fit_two}
-use Rattle.flat_model.proofs.OneName.{held_slot, some_slot, last_is_name, slot_is_free, one_name, not_crowded_one, OneComes, fresh_absent, rewires_one, links_add_same, links_add_other}
+use Rattle.flat_model.proofs.Edits.{coherent_rewired, coherent_without_name, without_gives, without_keeps, links_without_same, links_without_other, names_fit, names_fit_without}
+use Rattle.flat_model.proofs.Ways.{EndsAtSlot, walk_slot, way_kept, way_names, way_rerouted, way_avoids, dir_record, dir_of_name, find_some, is_in_slot_gives}
+use Rattle.flat_model.proofs.Fresh.{outcome_cases, covered_add, index_is_fresh, index_in_range}
+use Rattle.flat_model.proofs.OneName.{held_slot, some_slot, last_is_name, slot_is_free, one_name, not_crowded_one, OneComes, rewires_one, links_add_same, links_add_other}
 use Rattle.flat_model.proofs.Sound.{KeepsSound, unchanged_sound, no_entries, no_dir_entries}
 
 -- what stands at the end of a walk that is held

@@ -1,18 +1,18 @@
 -- Where one name comes, and at most one goes, a coherent subvolume stays coherent.
-use Rattle.std.proofs.Common.{◌≡◌, ◌≢◌, ℕ, ◌<◌, ◌≤◌, ◌+◌, Bool, true, false, cond, not, ◌&&◌, List, [], ◌∷◌, length, Option, Some, None, refl, sym, ap, subst, ◌∙◌, arith, inl, inr, ◌⊎◌}
-use Rattle.std.specs.List.{Contains, filter}
+use Rattle.std.proofs.Common.{◌≡◌, ◌≢◌, ℕ, ◌+◌, true, false, List, [], ◌∷◌, length, Option, Some, None, refl, sym, ap, subst, ◌∙◌, inl, inr, ◌⊎◌}
+use Rattle.std.specs.List.{Contains}
 use Rattle.std.specs.FinMap.{get}
-use Rattle.std.proofs.lemmas.Bool.{true≢false, eq-eqb, ne_eqb, cases_eq, or_parts}
+use Rattle.std.proofs.lemmas.Bool.{true≢false, eq-eqb, ne_eqb, or_parts}
 use Rattle.flat_model.specs.Records.{InodeRecord}
-use Rattle.flat_model.specs.Names.{FlatName, is_name_set, add_name, remove_name, leads_to, links_of, names_of, name_in_slot, is_in_slot}
+use Rattle.flat_model.specs.Names.{FlatName, is_name_set, add_name, leads_to, links_of, names_of, is_in_slot}
 use Rattle.flat_model.specs.Volume.{Subvolume, is_dir_at}
 use Rattle.flat_model.specs.Coherent.{IsCoherent, IsLinkCount, LeadsUp, IsNameBytes}
 use Rattle.flat_model.specs.Step.{IsPath}
-use Rattle.flat_model.specs.Walk.{WalkEnd, AtRoot, AtSlot, Missing, Blocked, walk, is_absent, is_dirless, is_blocked, is_root, is_taken}
-use Rattle.flat_model.specs.Operations.{is_crowded, has_room_near, do_collide, add_names}
-use Rattle.flat_model.proofs.Lists.{contains_head, contains_tail, contains_none, contains_cases, contains_filter, filter_contains, filter_empties}
+use Rattle.flat_model.specs.Walk.{WalkEnd, AtRoot, AtSlot, Missing, Blocked, is_absent, is_dirless, is_blocked, is_root, is_taken}
+use Rattle.flat_model.specs.Operations.{is_crowded, has_room_near, do_collide}
+use Rattle.flat_model.proofs.Lists.{contains_head, contains_tail, contains_none, contains_cases, filter_contains, filter_empties}
 use Rattle.flat_model.proofs.Maps.{some_none}
-use Rattle.flat_model.proofs.NameSets.{add_name_cases, add_name_has, add_name_keeps, is_name_set_add, filter_add_name, filter_add_other, length_add_name}
+use Rattle.flat_model.proofs.NameSets.{add_name_cases, is_name_set_add, filter_add_name, filter_add_other, length_add_name}
 use Rattle.flat_model.proofs.Edits.{NamesFit, IsFit, IsFitInode, Rewires}
 use Rattle.flat_model.proofs.Ways.{EndsAtSlot, path_down, find_none, is_in_slot_from}
 use Rattle.flat_model.proofs.Fresh.{names_fit_add}

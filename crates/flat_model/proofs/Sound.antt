@@ -1,25 +1,23 @@
 -- Each operation leaves a subvolume in a run sound: those that make a name out of nothing, and those that only remove.
-use Rattle.std.proofs.Common.{◌≡◌, ◌≢◌, ℕ, ◌<◌, ◌≤◌, ◌+◌, ◌^◌, Bool, true, false, cond, not, ◌&&◌, ◌||◌, List, [], ◌∷◌, length, Option, Some, None, refl, sym, ap, subst, ◌∙◌, arith, inl, inr, ◌⊎◌}
-use Rattle.std.specs.Bool.{nat_eq, nat_le, nat_lt}
+use Rattle.std.proofs.Common.{◌≡◌, ◌≢◌, ℕ, ◌<◌, ◌≤◌, ◌+◌, ◌^◌, true, false, not, ◌&&◌, List, [], ◌∷◌, Some, None, refl, sym, ap, subst, ◌∙◌, arith, inl, inr}
 use Rattle.std.specs.Option.{unwrap_or}
-use Rattle.std.specs.List.{Contains, filter}
+use Rattle.std.specs.List.{Contains}
 use Rattle.std.specs.FinMap.{get, insert}
-use Rattle.std.proofs.lemmas.Bool.{true≢false, cases_eq, eqb-true, eq-eqb, or_parts, leb-false, ltb-false}
+use Rattle.std.proofs.lemmas.Bool.{true≢false, cases_eq, eq-eqb, or_parts, leb-false, ltb-false}
 use Rattle.flat_model.specs.declared.answer.Answer.{Answer}
-use Rattle.flat_model.specs.declared.answer.Answer.TheVariants.{Plain, Number, NoEnt, NotDir, IsDir, Exists, NotEmpty, Loop, Links, TooLarge, Collide}
 use Rattle.flat_model.specs.Records.{InodeRecord, FileInode, DirInode, LinkInode, is_dir_record, attributes_of}
-use Rattle.flat_model.specs.Names.{FlatName, is_name_set, add_name, remove_name, leads_to, links_of, entries_of, stands_in}
+use Rattle.flat_model.specs.Names.{FlatName, add_name, links_of, entries_of, stands_in}
 use Rattle.flat_model.specs.Lengths.{most_item_bytes, xattr_item_length}
-use Rattle.flat_model.specs.Volume.{Subvolume, SubMarks, RunSub, note_name, note_ino, last_index_in, is_dir_at, is_dir_there, is_other_there}
+use Rattle.flat_model.specs.Volume.{Subvolume, RunSub, note_ino, is_dir_at, is_dir_there}
 use Rattle.flat_model.specs.Coherent.{IsCoherent, IsLinkCount, LeadsUp, KeepsLimits, most_links}
-use Rattle.flat_model.specs.Walk.{WalkEnd, AtRoot, AtSlot, Missing, Blocked, walk, ino_at, record_at, dir_of, is_absent, is_dirless, is_blocked, is_root, is_taken}
-use Rattle.flat_model.specs.Operations.{Outcome, first_answer, unchanged, unless_refused, make, make_rows, make_done, link, link_rows, link_done, unlink, unlink_rows, rmdir, rmdir_rows, removal_done, new_name, do_collide, with_made, inos_are_spent, indexes_are_spent, without_entry, without_name, has_entries}
+use Rattle.flat_model.specs.Walk.{WalkEnd, AtRoot, AtSlot, Missing, Blocked, walk, ino_at, record_at, dir_of, is_absent, is_blocked, is_root}
+use Rattle.flat_model.specs.Operations.{Outcome, unchanged, make, make_rows, make_done, link, link_rows, link_done, unlink, unlink_rows, rmdir, rmdir_rows, removal_done, new_name, do_collide, without_name, has_entries}
 use Rattle.flat_model.specs.Step.{IsPath, IsNextIndex, AreNextIndexes}
 use Rattle.flat_model.specs.Running.{AreCovered, IsSound}
 use Rattle.flat_model.proofs.Lists.{contains_none, contains_filter}
-use Rattle.flat_model.proofs.Maps.{some_none, some_same, get_insert_same, get_insert_other, insert_cases, no_length}
+use Rattle.flat_model.proofs.Maps.{get_insert_same, get_insert_other, insert_cases, no_length}
 use Rattle.flat_model.proofs.NameSets.{add_name_cases, add_name_has, add_name_keeps, remove_name_gives}
-use Rattle.flat_model.proofs.Edits.{IsFitInode, coherent_rewired, coherent_without_name, without_gives, names_fit}
+use Rattle.flat_model.proofs.Edits.{coherent_rewired, coherent_without_name, without_gives, names_fit}
 use Rattle.flat_model.proofs.Ways.{EndsAtSlot, walk_slot, way_kept, way_names, dir_record, find_some}
 use Rattle.flat_model.proofs.Fresh.{outcome_cases, covered_add, covered_part, index_is_fresh, index_in_range, root_below}
 use Rattle.flat_model.proofs.OneName.{free_slot, held_slot, last_is_name, slot_is_free, not_crowded_one, OneComes, fresh_absent, rewires_one, links_add_same, links_add_other, no_links}

@@ -1,32 +1,30 @@
 -- Each operation leaves a volume in a run sound, and so does each history.
-use Rattle.std.proofs.Common.{◌≡◌, ◌≢◌, ℕ, ◌<◌, ◌≤◌, ◌+◌, Bool, true, false, cond, not, ◌&&◌, ◌||◌, List, [], ◌∷◌, ◌++◌, length, take, map, Option, Some, None, refl, sym, ap, subst, ◌∙◌, arith, inl, inr, ◌⊎◌}
+use Rattle.std.proofs.Common.{◌≡◌, ℕ, ◌≤◌, ◌+◌, true, false, cond, List, [], ◌∷◌, length, Option, Some, None, refl, sym, ap, subst, ◌∙◌, arith, inl, inr}
 use Rattle.std.specs.Bool.{nat_eq, nat_lt, nat_le, ⊤}
 use Rattle.std.specs.Option.{unwrap_or}
 use Rattle.std.specs.List.{Contains, fold, slice_index}
 use Rattle.std.specs.FinMap.{get, insert, remove, empty, get-empty}
-use Rattle.std.proofs.lemmas.Bool.{true≢false, cases_eq, ltb-false, eqb-true}
+use Rattle.std.proofs.lemmas.Bool.{true≢false, ltb-false}
 use Rattle.blk_base.specs.Crc.{name_hash_of}
-use Rattle.flat_model.specs.declared.answer.Answer.{Answer}
-use Rattle.flat_model.specs.declared.answer.Answer.TheVariants.{Plain, Number, Bytes, NoEnt, Xdev, NotDir, TooLarge, Collide}
+use Rattle.flat_model.specs.declared.answer.Answer.TheVariants.{Plain, Number, NoEnt, Xdev, NotDir, TooLarge, Collide}
 use Rattle.flat_model.specs.declared.op.Op.{Op}
 use Rattle.flat_model.specs.declared.op.Op.TheVariants.{Create, Mkdir, Symlink, Link, Unlink, Rmdir, Rename, Exchange, Lookup, Write, Truncate, Read, SetAttr, DelAttr, GetAttr}
 use Rattle.flat_model.specs.declared.place.Place.{Place}
 use Rattle.flat_model.specs.Records.{InodeRecord, FileRecord, Attributes, FileInode, DirInode, LinkInode, is_dir_record, is_link_record, attributes_of, with_attributes, new_file, new_dir, new_link}
-use Rattle.flat_model.specs.Names.{FlatName, links_of}
 use Rattle.flat_model.specs.Lengths.{most_item_bytes, xattr_item_length}
 use Rattle.flat_model.specs.Contents.{most_file_bytes, written, truncated}
 use Rattle.flat_model.specs.Volume.{Subvolume, SubMarks, RunSub, RunVolume, Volume, is_dir_at, is_dir_there, is_link_there, mounted, volume_of, note_name}
-use Rattle.flat_model.specs.Coherent.{IsCoherent, IsCoherentVolume, IsLinkCount, KeepsLimits, KeepsFileLimits, KeepAttributeLimits, KeepsKindLimits, AreBytes, IsNameBytes}
+use Rattle.flat_model.specs.Coherent.{IsCoherent, IsLinkCount, KeepsLimits, KeepsFileLimits, KeepAttributeLimits, KeepsKindLimits, AreBytes, IsNameBytes}
 use Rattle.flat_model.specs.Walk.{WalkEnd, AtRoot, AtSlot, Missing, Blocked, walk, ino_at, record_at, is_absent, is_blocked, is_root}
-use Rattle.flat_model.specs.Operations.{Outcome, unless_refused, unchanged, lookup, file_rows, file_there, write, truncate, read, with_record, with_record_at, attributes_there, with_attributes_at, attribute_rows, set_attribute, remove_attribute, get_attribute, make, link, unlink, rmdir, rename, exchange}
+use Rattle.flat_model.specs.Operations.{Outcome, lookup, file_rows, file_there, write, truncate, read, with_record, with_record_at, attributes_there, with_attributes_at, attribute_rows, set_attribute, remove_attribute, get_attribute, make, link, unlink, rmdir, rename, exchange}
 use Rattle.flat_model.specs.Step.{VolumeOutcome, step, at_place, at_places, place_of, marks_in, IsChoice, AreNextIndexes, IsPath, IsSpelled, IsInLimits, Operated, after_one, after_all, MayCome, IsHistory}
-use Rattle.flat_model.specs.Running.{AreCovered, IsSound, IsSoundVolume}
+use Rattle.flat_model.specs.Running.{IsSound, IsSoundVolume}
 use Rattle.flat_model.proofs.Maps.{some_same, some_none, get_insert_same, get_insert_other, insert_cases}
 use Rattle.flat_model.proofs.Edits.{coherent_with_record}
 use Rattle.flat_model.proofs.Ways.{dir_record}
 use Rattle.flat_model.proofs.Fresh.{outcome_cases}
 use Rattle.flat_model.proofs.Sound.{KeepsSound, unchanged_sound, make_sound, link_sound, unlink_sound, rmdir_sound}
-use Rattle.flat_model.proofs.Moves.{HoldsName, holds_name, rename_sound}
+use Rattle.flat_model.proofs.Moves.{holds_name, rename_sound}
 use Rattle.flat_model.proofs.Swaps.{exchange_sound}
 use Rattle.flat_model.proofs.Filled.{written_keeps, written_attributes, truncated_keeps, truncated_attributes, inserted_keep, removed_keep, inserted_fit, removed_fit}
 

@@ -1,22 +1,19 @@
 -- exchange leaves a subvolume in a run sound.
-use Rattle.std.proofs.Common.{◌≡◌, ◌≢◌, ℕ, ◌<◌, ◌≤◌, ◌+◌, ◌^◌, max, Bool, true, false, cond, not, ◌&&◌, ◌||◌, List, [], ◌∷◌, length, Option, Some, None, refl, sym, ap, subst, ◌∙◌, arith, inl, inr, ◌⊎◌}
-use Rattle.std.specs.Bool.{nat_eq}
+use Rattle.std.proofs.Common.{◌≡◌, ◌≢◌, ℕ, ◌<◌, ◌≤◌, ◌+◌, ◌^◌, true, false, List, [], ◌∷◌, Some, refl, sym, ap, subst, ◌∙◌, arith, inl, inr, ◌⊎◌}
 use Rattle.std.specs.Option.{unwrap_or}
 use Rattle.std.specs.List.{Contains}
-use Rattle.std.specs.FinMap.{get}
-use Rattle.std.proofs.lemmas.Bool.{true≢false, cases_eq, cases_Bool, eq-eqb, or_parts, leb-false}
-use Rattle.flat_model.specs.Records.{InodeRecord}
+use Rattle.std.proofs.lemmas.Bool.{true≢false, cases_eq, eq-eqb, or_parts, leb-false}
 use Rattle.flat_model.specs.Names.{FlatName, is_name_set, is_same_name, add_name, remove_name, links_of}
-use Rattle.flat_model.specs.Volume.{Subvolume, SubMarks, RunSub, note_name, last_index_in, is_dir_at}
-use Rattle.flat_model.specs.Coherent.{IsCoherent, IsLinkCount, LeadsUp}
+use Rattle.flat_model.specs.Volume.{Subvolume, RunSub, note_name, last_index_in}
+use Rattle.flat_model.specs.Coherent.{IsLinkCount, LeadsUp}
 use Rattle.flat_model.specs.Walk.{WalkEnd, AtSlot, walk, ino_at, is_one_inode, is_below}
 use Rattle.flat_model.specs.Operations.{Outcome, exchange, exchange_rows, exchange_done, new_name, do_collide, is_crowded, names_without}
 use Rattle.flat_model.specs.Step.{IsPath, IsNextIndex}
-use Rattle.flat_model.specs.Running.{AreCovered, IsSound}
-use Rattle.flat_model.proofs.Lists.{contains_head, contains_tail, contains_none, contains_cases}
+use Rattle.flat_model.specs.Running.{IsSound}
+use Rattle.flat_model.proofs.Lists.{contains_head, contains_tail, contains_cases}
 use Rattle.flat_model.proofs.NameSets.{add_name_cases, add_name_has, add_name_keeps, remove_name_gives, remove_name_keeps, is_name_set_add, is_name_set_remove, is_same_name_true, is_same_name_itself}
 use Rattle.flat_model.proofs.Edits.{IsFit, Rewires, coherent_rewired, links_without_same, links_without_other, names_fit, names_fit_without}
-use Rattle.flat_model.proofs.Ways.{EndsAtSlot, way_kept, way_names, way_rerouted, way_avoids, way_avoids_own}
+use Rattle.flat_model.proofs.Ways.{way_kept, way_names, way_rerouted, way_avoids, way_avoids_own}
 use Rattle.flat_model.proofs.Fresh.{outcome_cases, covered_add, index_in_range, note_raises, last_index_note_same, names_fit_two}
 use Rattle.flat_model.proofs.OneName.{last_is_name, one_name, links_add_same, links_add_other}
 use Rattle.flat_model.proofs.Sound.{KeepsSound, unchanged_sound}

@@ -1,16 +1,14 @@
 -- Facts on how a volume's fields are seen, after an edit of one subvolume.
-use Rattle.std.proofs.Common.{◌≡◌, ℕ, Bool, true, false, cond, List, [], ◌∷◌, map, set, get_or, Option, Some, None, Ok, Err, Result, refl, sym, ap, subst, ◌∙◌}
+use Rattle.std.proofs.Common.{◌≡◌, ℕ, true, List, [], ◌∷◌, set, get_or, Some, None, Ok, Err, Result, sym, ap, ◌∙◌}
 use Rattle.std.specs.Bool.{◌==◌}
-use Rattle.std.specs.Option.{option_map, IsSome, is_some}
+use Rattle.std.specs.Option.{option_map, is_some}
 use Rattle.std.specs.Result.{OnOk, OnErr}
-use Rattle.std.specs.Ordering.{nat_cmp}
 use Rattle.std.specs.Cmp.{nat_cmp_total}
 use Rattle.std.specs.List.{position}
-use Rattle.std.specs.FinMap.{FinMap, get, insert, from_entries, get-from_entries}
-use Rattle.std.specs.FinMap.Entries.{find}
+use Rattle.std.specs.FinMap.{get, insert, get-from_entries}
 use Rattle.std.proofs.lemmas.Bool.{eqb-true}
 use Rattle.flat_model.specs.declared.volume.FlatSub.{FlatSub}
-use Rattle.flat_model.specs.Volume.{RunSub, RunVolume}
+use Rattle.flat_model.specs.Volume.{RunSub}
 use Rattle.flat_model.specs.Building.{at_sub}
 use Rattle.flat_model.specs.View.{sub_view, volume_view}
 use Rattle.flat_model.proofs.Maps.{insert_same, some_none}

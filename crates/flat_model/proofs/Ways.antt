@@ -1,17 +1,16 @@
 -- Facts on ways up to the root directory, on walks, and on slots.
-use Rattle.std.proofs.Common.{◌≡◌, ◌≢◌, ℕ, ◌<◌, ◌≤◌, ◌+◌, Bool, true, false, cond, not, ◌&&◌, List, [], ◌∷◌, ◌++◌, length, Option, Some, None, refl, sym, ap, subst, ◌∙◌, arith, inl, inr, ◌⊎◌, length-append}
-use Rattle.std.specs.Bool.{IsTrue, nat_eq}
+use Rattle.std.proofs.Common.{◌≡◌, ℕ, Bool, true, false, cond, ◌&&◌, List, [], ◌∷◌, ◌++◌, length, Option, Some, None, refl, sym, ap, subst, ◌∙◌, arith, inl, inr, ◌⊎◌, length-append}
 use Rattle.std.specs.Str.{bytes_eq}
 use Rattle.std.specs.Cmp.Lexicographic.{bytes_decides}
-use Rattle.std.specs.List.{Contains, filter, find}
+use Rattle.std.specs.List.{Contains, find}
 use Rattle.std.specs.FinMap.{get}
 use Rattle.std.proofs.lemmas.Bool.{true≢false, and_parts, and_from, eqb-true, eq-eqb}
 use Rattle.flat_model.specs.Records.{InodeRecord, is_dir_record, DirInode, FileInode, LinkInode}
-use Rattle.flat_model.specs.Names.{FlatName, leads_to, is_in_slot, names_of, links_of, name_in_slot}
+use Rattle.flat_model.specs.Names.{FlatName, leads_to, is_in_slot, names_of, name_in_slot}
 use Rattle.flat_model.specs.Volume.{Subvolume, is_dir_at, is_dir_there}
 use Rattle.flat_model.specs.Coherent.{IsCoherent, LeadsUp, IsLinkCount}
-use Rattle.flat_model.specs.Walk.{WalkEnd, AtRoot, AtSlot, Missing, Blocked, walk, walk_from, dir_of, bytes_of, is_below, is_root, is_blocked, is_dirless}
-use Rattle.flat_model.proofs.Lists.{contains_head, contains_tail, contains_none, contains_cases, contains_filter, filter_contains}
+use Rattle.flat_model.specs.Walk.{WalkEnd, AtRoot, AtSlot, Missing, Blocked, walk, walk_from, dir_of, bytes_of, is_below}
+use Rattle.flat_model.proofs.Lists.{contains_head, contains_tail, contains_none, contains_cases, contains_filter}
 use Rattle.flat_model.proofs.Maps.{some_same, some_none}
 
 -- ---- what `find` answers

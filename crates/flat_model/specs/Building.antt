@@ -1,5 +1,5 @@
 -- What the calls that build a volume piece by piece make of it.
-use Rattle.std.specs.Prelude.{◌≡◌, ℕ, suc, Bool, true, false, List, [], ◌∷◌, Option, Some, None, unwrap_or}
+use Rattle.std.specs.Prelude.{ℕ, suc, Bool, true, false, List, [], ◌∷◌, Some, None}
 use Rattle.std.specs.Ordering.{match_ordering}
 use Rattle.std.specs.FinMap.{get, insert, empty}
 use Rattle.flat_model.specs.declared.view.Kind.{Kind}

@@ -3,7 +3,7 @@ use Rattle.std.specs.Prelude.{◌≡◌, ◌⊎◌, ℕ, Bool, List, refl}
 use Rattle.std.specs.Coded.{Coded, code_by, coded×, coded⊎, coded_ℕ, coded_bool, coded_list}
 use Rattle.std.specs.FinMap as map
 use mathlib.Core.Logic.{inl, inr}
-use Rattle.flat_model.specs.Records.{Attributes, Blocks, FileRecord, DirRecord, LinkRecord, InodeRecord, FileInode, DirInode, LinkInode}
+use Rattle.flat_model.specs.Records.{Attributes, Blocks, FileRecord, LinkRecord, InodeRecord, FileInode, DirInode, LinkInode}
 use Rattle.flat_model.specs.Names.{FlatName}
 use Rattle.flat_model.specs.Volume.{Subvolume, SubMarks, RunSub, RunVolume}
 

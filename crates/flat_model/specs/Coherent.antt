@@ -1,8 +1,8 @@
 -- When a flat volume is coherent: what holds of every volume that this file system makes, and of every one that it mounts.
-use Rattle.std.specs.Prelude.{◌≡◌, ◌≢◌, ℕ, ◌+◌, ◌*◌, ◌^◌, ◌<◌, ◌≤◌, Bool, true, List, [], ◌∷◌, length, Option, Some, IsTrue, All, Contains, slice_index}
+use Rattle.std.specs.Prelude.{◌≡◌, ◌≢◌, ℕ, ◌+◌, ◌*◌, ◌^◌, ◌<◌, ◌≤◌, List, [], ◌∷◌, length, Some, IsTrue, All, Contains, slice_index}
 use Rattle.std.specs.FinMap.{get}
 use Rattle.blk_base.specs.Name.{IsName}
-use Rattle.flat_model.specs.Records.{Attributes, FileRecord, DirRecord, LinkRecord, InodeRecord, FileInode, DirInode, LinkInode, is_dir_record, attributes_of}
+use Rattle.flat_model.specs.Records.{Attributes, FileRecord, LinkRecord, InodeRecord, FileInode, DirInode, LinkInode, attributes_of}
 use Rattle.flat_model.specs.Names.{FlatName, is_name_set, links_of}
 use Rattle.flat_model.specs.Lengths.{most_item_bytes, ref_item_length, extref_item_length, dir_item_length, xattr_item_length, link_extent_length}
 use Rattle.flat_model.specs.Contents.{block_bytes, most_file_bytes}

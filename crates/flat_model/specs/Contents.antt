@@ -1,5 +1,5 @@
 -- The bytes of a file, and what writes and truncates make of it.
-use Rattle.std.specs.Prelude.{◌≡◌, ℕ, ◌+◌, ◌-◌, ◌*◌, ◌/◌, ◌%◌, ◌<◌, ◌≤◌, min, max, Bool, cond, ◌&&◌, List, ◌++◌, map, length, take, replicate, slice_index, Option, Some, None, unwrap_or, fold, nat_lt, nat_le}
+use Rattle.std.specs.Prelude.{ℕ, ◌+◌, ◌-◌, ◌*◌, ◌/◌, ◌%◌, min, max, cond, ◌&&◌, List, ◌++◌, map, length, take, replicate, slice_index, Some, None, unwrap_or, fold, nat_lt, nat_le}
 use Rattle.std.specs.List.{range_with_len}
 use Rattle.std.specs.FinMap.{get, insert, retain_keys}
 use Rattle.flat_model.specs.Records.{FileRecord, Blocks}

@@ -1,5 +1,5 @@
 -- How many bytes the items have that names, attributes and symlinks ask for.
-use Rattle.std.specs.Prelude.{ℕ, ◌+◌, Bool, ◌&&◌, not, List, length, filter, sum_by, nat_eq, nat_le, ◌≤◌}
+use Rattle.std.specs.Prelude.{ℕ, ◌+◌, ◌&&◌, not, List, length, filter, sum_by, nat_eq}
 use Rattle.std.specs.FinMap.{entries}
 use Rattle.blk_base.specs.Crc.{name_hash_of, extref_hash_of}
 use Rattle.flat_model.specs.Names.{FlatName}

@@ -1,12 +1,12 @@
 -- What each operation makes of a subvolume, and what it answers.
-use Rattle.std.specs.Prelude.{◌≡◌, ℕ, ◌+◌, ◌*◌, ◌^◌, ◌<◌, ◌≤◌, Bool, true, false, cond, not, ◌&&◌, ◌||◌, List, [], ◌∷◌, length, Option, Some, None, is_some, is_none, unwrap_or, nat_eq, nat_lt, nat_le, fold}
+use Rattle.std.specs.Prelude.{ℕ, ◌+◌, ◌^◌, Bool, false, cond, not, ◌&&◌, ◌||◌, List, [], ◌∷◌, length, Option, Some, None, is_none, unwrap_or, nat_eq, nat_lt, nat_le, fold}
 use Rattle.std.specs.List.{list_any}
-use Rattle.std.specs.FinMap.{FinMap, empty, get, insert, remove}
+use Rattle.std.specs.FinMap.{empty, get, insert, remove}
 use Rattle.blk_base.specs.Crc.{name_hash_of, extref_hash_of}
 use Rattle.flat_model.specs.declared.answer.Answer.{Answer}
 use Rattle.flat_model.specs.declared.answer.Answer.TheVariants.{Plain, Number, Bytes, NoEnt, NotDir, IsDir, Exists, NotEmpty, Loop, Links, TooLarge, NoAttr, Collide}
 use Rattle.flat_model.specs.Records.{Attributes, FileRecord, InodeRecord, FileInode, DirInode, LinkInode, attributes_of, with_attributes}
-use Rattle.flat_model.specs.Names.{FlatName, add_name, remove_name, names_of, entries_of, links_of}
+use Rattle.flat_model.specs.Names.{FlatName, add_name, remove_name, entries_of, links_of}
 use Rattle.flat_model.specs.Lengths.{most_item_bytes, most_ref_bytes, ref_length, ref_item_length, extref_item_length, dir_item_length, xattr_item_length}
 use Rattle.flat_model.specs.Contents.{most_file_bytes, bytes_read, written, truncated}
 use Rattle.flat_model.specs.Coherent.{most_links}

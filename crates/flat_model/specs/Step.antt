@@ -1,7 +1,6 @@
 -- What an operation makes of a volume, which choices it leaves, and what a history makes of a volume.
-use Rattle.std.specs.Prelude.{◌≡◌, ◌≢◌, ℕ, ◌+◌, ◌<◌, ◌≤◌, Bool, cond, List, [], ◌∷◌, map, length, take, Option, Some, None, All, fold, nat_eq, slice_index, ⊤}
+use Rattle.std.specs.Prelude.{◌≡◌, ℕ, ◌+◌, ◌<◌, ◌≤◌, Bool, cond, List, [], ◌∷◌, length, take, Some, None, All, fold, nat_eq, slice_index, ⊤}
 use Rattle.std.specs.FinMap.{get, insert}
-use Rattle.blk_base.specs.Name.{IsName}
 use Rattle.flat_model.specs.declared.answer.Answer.{Answer}
 use Rattle.flat_model.specs.declared.answer.Answer.TheVariants.{NoEnt, Xdev}
 use Rattle.flat_model.specs.declared.op.Op.{Op}
@@ -143,7 +142,7 @@ after_all run history = fold after_one run history
 abbrev pub volume_at : Volume → List Operated → ℕ → Volume
 volume_at volume history point = volume_of (after_all (mounted volume) (take point history))
 
--- an operation may come in a run: it is in its limits, and the indexes are a choice that it leaves, 0 where it found too little room (own)
+-- an operation may come in a run: it is in its limits, and the indexes are a choice that it leaves, 0 where it found too little room; when it may find too little room isn't said here (own)
 pub record MayCome (run : RunVolume) (operated : Operated) : Type 0 where
   pub spelled : IsSpelled operated.op
   pub in_limits : IsInLimits operated.op

@@ -1,7 +1,5 @@
 -- How the fields of a `FlatVolume` are seen.
-use Rattle.std.specs.Prelude.{◌≡◌, ℕ, ◌≤◌, ◌<◌, Bool, List, [], ◌∷◌, map, length, IsTrue, All}
-use Rattle.std.specs.Ordering.{nat_cmp}
-use Rattle.std.specs.Cmp.Lexicographic.{slice_cmp}
+use Rattle.std.specs.Prelude.{◌≡◌, ℕ, Bool, List, [], ◌∷◌, map, length, IsTrue, All}
 use Rattle.std.specs.FinMap.{from_entries}
 use Rattle.flat_model.specs.declared.volume.Contents.{Contents}
 use Rattle.flat_model.specs.declared.volume.Contents.TheVariants as contents

@@ -1,5 +1,5 @@
 -- Flat volumes: subvolumes as inodes and names, and the numbers that a run keeps beside them.
-use Rattle.std.specs.Prelude.{◌≡◌, ℕ, zero, suc, ◌+◌, max, Bool, true, false, cond, List, [], ◌∷◌, map, Option, Some, None, unwrap_or, fold}
+use Rattle.std.specs.Prelude.{ℕ, zero, suc, max, Bool, true, false, cond, List, [], ◌∷◌, map, Option, Some, None, unwrap_or, fold}
 use Rattle.std.specs.Ordering.{nat_cmp}
 use Rattle.std.specs.List.{range_with_len}
 use Rattle.std.specs.FinMap.{FinMap, empty, get, insert, entries, keys, from_entries}

@@ -2,7 +2,7 @@
 use Rattle.std.specs.Prelude.{ℕ, Bool, true, false, cond, ◌&&◌, List, [], ◌∷◌, Option, Some, None, nat_eq, bytes_eq}
 use Rattle.std.specs.FinMap.{get}
 use Rattle.flat_model.specs.Records.{InodeRecord}
-use Rattle.flat_model.specs.Names.{FlatName, name_in_slot, remove_name}
+use Rattle.flat_model.specs.Names.{FlatName, name_in_slot}
 use Rattle.flat_model.specs.Volume.{Subvolume, is_dir_at}
 
 -- where a path leads in a subvolume: to the root directory, to a slot of a directory that is there, with the name in it

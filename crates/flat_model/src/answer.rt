@@ -44,7 +44,8 @@ pub enum Answer {
     Exists,
     /// The directory has names.
     NotEmpty,
-    /// The root directory, a place below itself, or a symlink where a file is needed.
+    /// The root directory, a place below itself, two places of which one lies below the other, or a symlink where a
+    /// file is needed.
     Loop,
     /// The file has as many names as it may have.
     Links,

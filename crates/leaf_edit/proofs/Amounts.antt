@@ -1,5 +1,5 @@
 -- How many bytes the data of a list's first items have, as the list is edited.
-use Rattle.std.proofs.Common.{◌≡◌, ◌≤◌, ◌<◌, ◌+◌, ◌-◌, ◌*◌, ℕ, suc, zero, List, [], ◌∷◌, ◌++◌, length, take, drop, get_or, refl, ap, arith, ◌∙◌, sym, add-one, length-append}
+use Rattle.std.proofs.Common.{◌≡◌, ◌≤◌, ◌<◌, ◌+◌, ℕ, suc, zero, List, [], ◌∷◌, ◌++◌, length, take, get_or, refl, ap, arith, ◌∙◌, add-one}
 use Rattle.std.specs.Prelude.{insert, remove}
 use Rattle.blk_base.specs.Leaf.{Item, data_of}
 use Rattle.leaf_edit.specs.Packed.{data_before}

@@ -1,12 +1,11 @@
 -- Items appended to a packed leaf one by one.
-use Rattle.std.proofs.Common.{◌≡◌, ◌≤◌, ◌<◌, ◌+◌, ◌-◌, ◌*◌, ℕ, suc, zero, Bool, true, ◌&&◌, List, [], ◌∷◌, ◌++◌, length, take, drop, get_or, map, refl, ap, arith, ◌∙◌, sym, Some, slice_get, length-append, length-drop, append_assoc}
+use Rattle.std.proofs.Common.{◌≡◌, ◌≤◌, ◌<◌, ◌+◌, ◌-◌, ◌*◌, ℕ, suc, zero, true, List, [], ◌∷◌, ◌++◌, length, drop, get_or, refl, ap, arith, ◌∙◌, sym, Some, slice_get, length-append, length-drop, append_assoc}
 use Rattle.std.specs.Prelude.{insert}
-use Rattle.std.proofs.lemmas.Bool.{and_parts, and_from}
 use Rattle.std.proofs.lemmas.List.{drop_more, drop_all, append-nil}
 use Rattle.std.proofs.lemmas.List.Edits.{insert_end}
 use Rattle.std.proofs.lemmas.Option.{same_Some}
 use Rattle.blk_base.specs.declared.key.Key.{Key}
-use Rattle.blk_base.specs.Keys.{key_below, keys_rise}
+use Rattle.blk_base.specs.Keys.{keys_rise}
 use Rattle.blk_base.specs.Leaf.{Item, data_of, room_of}
 use Rattle.leaf_view.specs.Listed.{items_in}
 use Rattle.leaf_view.specs.Search.{keys_of, contents_of}
@@ -50,8 +49,18 @@ module _ (first now : List ℕ) (source : List Item) (from i : ℕ) (key : Key) 
       let fits = packed.fits in
       let long = ap length split_total in
       let much = ap data_of split_total in
-      omega (arith, long, much, length-append (items_in now ++ item ∷ []) rest, length-append (items_in now) (item ∷ []), length-append (items_in first) (drop from source), length-drop from source,
-        data_of-append (items_in now ++ item ∷ []) rest, data_of-append (items_in now) (item ∷ []), data_of-append (items_in first) (drop from source))
+      omega (
+        arith,
+        long,
+        much,
+        length-append (items_in now ++ item ∷ []) rest,
+        length-append (items_in now) (item ∷ []),
+        length-append (items_in first) (drop from source),
+        length-drop from source,
+        data_of-append (items_in now ++ item ∷ []) rest,
+        data_of-append (items_in now) (item ∷ []),
+        data_of-append (items_in first) (drop from source),
+      )
 
   pub order_for : keys_rise (keys_of (items_in first ++ drop from source)) ≡ true → keys_rise (keys_of (insert (items_in now) (length (items_in now)) (key, content))) ≡ true
   order_for rise =

@@ -1,9 +1,9 @@
 -- Data that share no byte have, with the headers, no more bytes than there is room.
-use Rattle.std.proofs.Common.{◌≡◌, ◌≤◌, ◌<◌, ◌+◌, ◌-◌, ◌*◌, ◌⊎◌, ℕ, suc, zero, Bool, true, false, ◌&&◌, ◌||◌, leb, ltb, List, [], ◌∷◌, length, take, get_or, refl, ap, arith, ◌∙◌, sym, inl, inr, length-drop}
-use Rattle.std.proofs.lemmas.Bool.{cases_Bool, cases_lt, or_cases, and_parts, leb-true, ltb-true, le-leb, lt-ltb, lt-leb, le-ltb, and_left, and_right}
-use Rattle.std.proofs.lemmas.List.{length-take-le, take_more}
+use Rattle.std.proofs.Common.{◌≡◌, ◌≤◌, ◌<◌, ◌+◌, ◌-◌, ◌*◌, ℕ, suc, zero, Bool, true, false, ◌&&◌, ◌||◌, leb, ltb, List, length, get_or, refl, ap, arith, ◌∙◌, inl, inr, length-drop}
+use Rattle.std.proofs.lemmas.Bool.{cases_lt, or_cases, and_parts, leb-true, ltb-true, le-leb, lt-ltb, lt-leb, le-ltb, and_right}
+use Rattle.std.proofs.lemmas.List.{length-take-le}
 use Rattle.std.proofs.lemmas.Option.{get_or_from_slice_get}
-use Rattle.blk_base.specs.Leaf.{Item, IsLeafBody, HasByte, data_of, count_of, item_of, item_offset, item_size, item_end}
+use Rattle.blk_base.specs.Leaf.{Item, IsLeafBody, data_of, item_of, item_offset, item_size, item_end}
 use Rattle.leaf_edit.specs.Packed.{data_before}
 use Rattle.leaf_edit.proofs.Amounts.{data_before_none, data_before_more, data_before_all}
 
@@ -52,8 +52,8 @@ unfolding tally between one
 tally_inside from end zero low high = omega arith
 tally_inside from end (suc n) low high =
     elim (cases_lt n from) [
-      inl under ↦ rw (lt-leb from n under) (omega (arith, tally_outside from end n (omega arith)))
-    | inr over ↦ rw (le-leb from n over, lt-ltb n end (omega arith)) (omega (arith, tally_inside from end n over (omega arith)))
+      | inl under ↦ rw (lt-leb from n under) (omega (arith, tally_outside from end n (omega arith)))
+      | inr over ↦ rw (le-leb from n over, lt-ltb n end (omega arith)) (omega (arith, tally_inside from end n over (omega arith)))
     ]
 
 tally_between : (from end n : ℕ) → from ≤ end → end ≤ n → tally (between from end) n ≡ end - from
@@ -61,11 +61,11 @@ unfolding tally between one
 tally_between from end zero low high = omega arith
 tally_between from end (suc n) low high =
     elim (cases_lt n end) [
-      inl under ↦
-        let last : suc n ≡ end = omega arith in
-        let inner : (from end m : ℕ) → from ≤ m → m ≤ end → m ≡ end → tally (between from end) m ≡ end - from = λ from end m a b e. tally_inside from end m a b ∙ ap (λ k. k - from) e in
-        inner from end (suc n) (omega arith) (omega arith) last
-    | inr over ↦ rw (and_right (leb from n) (ltb n end) (le-ltb n end over)) (omega (arith, tally_between from end n low over))
+      | inl under ↦
+          let last : suc n ≡ end = omega arith in
+          let inner : (from end m : ℕ) → from ≤ m → m ≤ end → m ≡ end → tally (between from end) m ≡ end - from = λ from end m a b e. tally_inside from end m a b ∙ ap (λ k. k - from) e in
+          inner from end (suc n) (omega arith) (omega arith) last
+      | inr over ↦ rw (and_right (leb from n) (ltb n end) (le-ltb n end over)) (omega (arith, tally_between from end n low over))
     ]
 
 -- the places that the headers and the data of the first n items take
@@ -88,11 +88,11 @@ taken_apart bytes items zero j at h lower within first second =
     omega (arith, a.1, b.0, h.behind_headers j within)
 taken_apart bytes items (suc n) j at h lower within first second =
     elim (or_cases (taken bytes (25 * length items) n at) (between (item_offset bytes n) (item_end bytes n) at) first) [
-      inl earlier ↦ taken_apart bytes items n j at h (omega arith) within earlier second
-    | inr here ↦
-        let a = between_means (item_offset bytes n) (item_end bytes n) at here in
-        let b = between_means (item_offset bytes j) (item_end bytes j) at second in
-        h.apart n j at (omega arith) within (record { from = a.0; below = a.1 }) (record { from = b.0; below = b.1 })
+      | inl earlier ↦ taken_apart bytes items n j at h (omega arith) within earlier second
+      | inr here ↦
+          let a = between_means (item_offset bytes n) (item_end bytes n) at here in
+          let b = between_means (item_offset bytes j) (item_end bytes j) at second in
+          h.apart n j at (omega arith) within (record { from = a.0; below = a.1 }) (record { from = b.0; below = b.1 })
     ]
 
 size_of_item : (bytes : List ℕ) (items : List Item) (i : ℕ) → length bytes ≡ 4096 → IsLeafBody bytes items → i < length items → length (item_of bytes i).1 ≡ item_size bytes i

@@ -1,11 +1,10 @@
 -- The first items of a packed leaf, and none.
-use Rattle.std.proofs.Common.{◌≡◌, ◌≤◌, ◌<◌, ◌+◌, ◌-◌, ◌*◌, ◌^◌, ℕ, List, [], ◌∷◌, ◌++◌, length, take, drop, get_or, map, true, refl, ap, arith, ◌∙◌, sym}
+use Rattle.std.proofs.Common.{◌≡◌, ◌≤◌, ◌<◌, ◌+◌, ◌^◌, ℕ, List, [], ◌++◌, length, take, drop, get_or, refl, ap, arith, ◌∙◌, sym}
 use Rattle.std.proofs.lemmas.List.{length-take-le, take-take, get_or-take, take-map}
-use Rattle.blk_base.specs.Bytes.{bytes_at, with_bytes, number_bytes}
-use Rattle.blk_base.specs.Keys.{keys_rise}
+use Rattle.blk_base.specs.Bytes.{with_bytes, number_bytes}
 use Rattle.blk_base.specs.Leaf.{Item, data_of, count_of}
 use Rattle.leaf_view.specs.Search.{keys_of}
-use Rattle.leaf_edit.specs.Packed.{IsPacked, header_of, data_before, place_of, packed_header}
+use Rattle.leaf_edit.specs.Packed.{IsPacked, data_before, place_of}
 use Rattle.leaf_edit.proofs.Amounts.{data_before_le, data_before-is}
 use Rattle.leaf_edit.proofs.Fronts.{number_reads_back}
 use Rattle.leaf_edit.proofs.Parts.{part_in_back, drop-with_bytes, drop-with_bytes_here, length-with_bytes}
@@ -31,11 +30,11 @@ cut b0 b1 items at h within made =
       fits = omega (arith, shorter, sym (data_before-is items at), data_before_le items at);
       rise = rw (sym (take-map (λ item. item.0) at items)) (rise-take (keys_of items) at h.rise);
       headers = λ i d inside.
-        let item : get_or (take at items) i d ≡ get_or items i d = get_or-take at items i d (omega arith) in
-        rw (item, amount_in_front items at (i + 1) (omega arith)) (header_in_back b1 b0 100 i behind (omega arith) ∙ h.headers i d (omega arith));
+          let item : get_or (take at items) i d ≡ get_or items i d = get_or-take at items i d (omega arith) in
+          rw (item, amount_in_front items at (i + 1) (omega arith)) (header_in_back b1 b0 100 i behind (omega arith) ∙ h.headers i d (omega arith));
       contents = λ i d inside.
-        let item : get_or (take at items) i d ≡ get_or items i d = get_or-take at items i d (omega arith) in
-        rw (item, amount_in_front items at (i + 1) (omega arith)) (part_in_back b1 b0 100 (101 + place_of items i) (length (get_or items i d).1) behind (omega arith) ∙ h.contents i d (omega arith));
+          let item : get_or (take at items) i d ≡ get_or items i d = get_or-take at items i d (omega arith) in
+          rw (item, amount_in_front items at (i + 1) (omega arith)) (part_in_back b1 b0 100 (101 + place_of items i) (length (get_or items i d).1) behind (omega arith) ∙ h.contents i d (omega arith));
     }
 
 pub cut_all : (b0 b1 : List ℕ) → length b0 ≡ 4096 → b1 ≡ with_bytes b0 96 (number_bytes 4 0) → IsPacked b1 []

@@ -1,5 +1,5 @@
 -- What an editor of a leaf shows before and after an edit.
-use Rattle.std.proofs.Common.{◌≡◌, ◌≤◌, ◌<◌, ◌+◌, ◌-◌, ◌*◌, ℕ, Bool, true, List, [], ◌∷◌, ◌++◌, length, take, drop, map, refl, ap, arith, ◌∙◌, sym, Ok, IsOk, Result}
+use Rattle.std.proofs.Common.{◌≡◌, ◌≤◌, ◌+◌, ◌-◌, ◌*◌, ℕ, true, List, [], ◌++◌, length, take, drop, refl, ap, arith, ◌∙◌, sym, Ok, IsOk, Result}
 use Rattle.std.proofs.lemmas.Bool.{eq-eqb}
 use Rattle.std.proofs.lemmas.Slice.Eq.{bytes_eq-Decides}
 use Rattle.std.proofs.lemmas.List.{take-append-drop, drop-map}
@@ -8,11 +8,11 @@ use Rattle.blk_base.specs.declared.fault.BlockFault.{BlockFault}
 use Rattle.blk_base.specs.Crc.{block_sum}
 use Rattle.blk_base.specs.Bytes.{bytes_at, field}
 use Rattle.blk_base.specs.Keys.{keys_rise}
-use Rattle.blk_base.specs.Leaf.{Item, leaf_of, leaf_body_of, after_header, data_of, room_of, count_of, HeaderFits}
+use Rattle.blk_base.specs.Leaf.{Item, leaf_body_of, after_header, data_of, room_of, count_of, HeaderFits}
 use Rattle.leaf_view.specs.Listed.{items_in}
 use Rattle.leaf_view.specs.Search.{keys_of}
 use Rattle.leaf_view.proofs.LeafLaws.{leaf_body_listed}
-use Rattle.leaf_edit.specs.Packed.{IsPacked, header_of, place_of}
+use Rattle.leaf_edit.specs.Packed.{IsPacked, place_of}
 use Rattle.leaf_edit.proofs.Amounts.{data_of-append}
 use Rattle.leaf_edit.proofs.Parts.{part_in_back}
 use Rattle.leaf_edit.proofs.Passing.{packed_passes, packed_items, packed_itself}
@@ -65,5 +65,11 @@ sealed_packed old new items long same_count same_body h = record {
 -- a header that fits what is wanted passes the checks
 pub header_passes : {A : Type 0} (want : Want) (bytes : List ℕ) (body : Result A BlockFault) → HeaderFits want bytes → after_header want bytes body ≡ body
 header_passes want bytes body h =
-    rw (eq-eqb (field 4 bytes 0) (block_sum bytes) h.sum, (bytes_eq-Decides (bytes_at 16 bytes 32) want.fsid).1 h.fsid, eq-eqb (field 8 bytes 48) want.at.0 h.address, eq-eqb (field 8 bytes 80) want.generation h.generation,
-      eq-eqb (field 8 bytes 88) want.owner h.owner, eq-eqb (field 1 bytes 100) want.level h.level) refl
+    rw (
+      eq-eqb (field 4 bytes 0) (block_sum bytes) h.sum,
+      (bytes_eq-Decides (bytes_at 16 bytes 32) want.fsid).1 h.fsid,
+      eq-eqb (field 8 bytes 48) want.at.0 h.address,
+      eq-eqb (field 8 bytes 80) want.generation h.generation,
+      eq-eqb (field 8 bytes 88) want.owner h.owner,
+      eq-eqb (field 1 bytes 100) want.level h.level,
+    ) refl

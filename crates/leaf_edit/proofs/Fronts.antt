@@ -1,11 +1,11 @@
 -- Headers and keys as a block holds them: what a write leaves of them, and reads back.
-use Rattle.std.proofs.Common.{◌≡◌, ◌≤◌, ◌<◌, ◌+◌, ◌-◌, ◌*◌, ◌^◌, ℕ, suc, zero, List, [], ◌∷◌, ◌++◌, length, take, drop, get_or, refl, ap, arith, ◌∙◌, sym, length-append, append_assoc}
+use Rattle.std.proofs.Common.{◌≡◌, ◌≤◌, ◌<◌, ◌+◌, ◌^◌, ℕ, List, [], ◌∷◌, ◌++◌, length, drop, refl, ap, arith, ◌∙◌, sym, append_assoc}
 use Rattle.std.proofs.lemmas.List.{drop-drop, drop_at}
 use Rattle.byteorder.specs.Numbers.{little_number-reads_back}
 use Rattle.blk_base.specs.declared.key.Key.{Key}
 use Rattle.blk_base.specs.Bytes.{field, bytes_at, with_bytes, number_bytes}
 use Rattle.blk_base.specs.Keys.{KeyFits, key_at}
-use Rattle.blk_base.specs.Leaf.{header_at, item_key, item_offset, item_size}
+use Rattle.blk_base.specs.Leaf.{header_at}
 use Rattle.leaf_edit.specs.declared.header.Header.{Header}
 use Rattle.leaf_edit.specs.Images.{key_image}
 use Rattle.leaf_edit.specs.Packed.{HeaderFits, header_of, header_bytes}
@@ -74,10 +74,10 @@ header_reads_back bytes i header fits within =
     let rest = drop (header_at i + length (header_bytes header)) bytes in
     let sizes = number_bytes 4 header.size ++ rest in
     let whole : drop (header_at i) new ≡ key_image header.key ++ (number_bytes 4 header.offset ++ sizes) =
-        drop-with_bytes_here bytes (header_at i) (header_bytes header) within
-        ∙ append_assoc (key_image header.key ++ number_bytes 4 header.offset) (number_bytes 4 header.size) rest
-        ∙ append_assoc (key_image header.key) (number_bytes 4 header.offset) sizes in
+    drop-with_bytes_here bytes (header_at i) (header_bytes header) within
+    ∙ append_assoc (key_image header.key ++ number_bytes 4 header.offset) (number_bytes 4 header.size) rest
+    ∙ append_assoc (key_image header.key) (number_bytes 4 header.offset) sizes in
     let after_key : drop (header_at i + 17) new ≡ number_bytes 4 header.offset ++ sizes = behind new (header_at i) (header_at i + 17) (key_image header.key) (number_bytes 4 header.offset ++ sizes) whole (ap (λ n. header_at i + n) (length-key_image header.key)) in
     let after_offset : drop (header_at i + 21) new ≡ sizes = behind new (header_at i + 17) (header_at i + 21) (number_bytes 4 header.offset) sizes after_key (omega arith) in
     same_header (header_of new i) header (key_reads_back new (header_at i) header.key (number_bytes 4 header.offset ++ sizes) fits.key whole)
-      (number_reads_back 4 new (header_at i + 17) header.offset sizes after_key (omega (arith, fits.offset))) (number_reads_back 4 new (header_at i + 21) header.size rest after_offset (omega (arith, fits.size)))
+    (number_reads_back 4 new (header_at i + 17) header.offset sizes after_key (omega (arith, fits.offset))) (number_reads_back 4 new (header_at i + 21) header.size rest after_offset (omega (arith, fits.size)))

@@ -1,10 +1,10 @@
 -- The header of a block, field by field.
-use Rattle.std.proofs.Common.{◌≡◌, ◌≤◌, ◌<◌, ◌+◌, ◌-◌, ◌*◌, ◌%◌, ◌^◌, ℕ, List, [], ◌∷◌, ◌++◌, length, take, drop, refl, ap, arith, ◌∙◌, sym, length-append, append_assoc}
+use Rattle.std.proofs.Common.{◌≡◌, ◌≤◌, ◌<◌, ◌+◌, ◌%◌, ◌^◌, ℕ, List, [], ◌∷◌, ◌++◌, length, take, drop, refl, ap, arith, ◌∙◌, sym, length-append, append_assoc}
 use Rattle.std.proofs.lemmas.List.{take_at}
 use Rattle.blk_base.specs.declared.key.Want.{Want}
 use Rattle.blk_base.specs.Bytes.{field, bytes_at, with_bytes, number_bytes, zeros}
 use Rattle.blk_base.specs.Crc.{block_sum, crc32c_of}
-use Rattle.blk_base.specs.Leaf.{HeaderFits, header_fields, count_of}
+use Rattle.blk_base.specs.Leaf.{header_fields, count_of}
 use Rattle.blk_base.specs.Superblock.{with_fields}
 use Rattle.leaf_edit.proofs.Sealing.{HasFields, IsSealed}
 use Rattle.leaf_edit.proofs.Fronts.{behind, number_reads_back}
@@ -140,8 +140,23 @@ fields_there b0 b1 b2 b3 b4 b5 b6 b7 b8 i address generation owner level long lo
     let o = number_bytes 8 owner in
     let l = level ∷ [] in
     let h : Writes b0 b1 b2 b3 b4 b5 b6 b7 b8 z i a f u g o l = record {
-      long = long; long_z = refl; long_i = long_i; long_a = refl; long_f = refl; long_u = refl; long_g = refl; long_o = refl; long_l = refl;
-      w1 = w1; w2 = w2; w3 = w3; w4 = w4; w5 = w5; w6 = w6; w7 = w7; w8 = w8;
+      long = long;
+      long_z = refl;
+      long_i = long_i;
+      long_a = refl;
+      long_f = refl;
+      long_u = refl;
+      long_g = refl;
+      long_o = refl;
+      long_l = refl;
+      w1 = w1;
+      w2 = w2;
+      w3 = w3;
+      w4 = w4;
+      w5 = w5;
+      w6 = w6;
+      w7 = w7;
+      w8 = w8;
     } in record {
       has_behind_sum = zeros_there b0 b1 b2 b3 b4 b5 b6 b7 b8 z i a f u g o l h;
       has_fsid = fsid_there b0 b1 b2 b3 b4 b5 b6 b7 b8 z i a f u g o l h;
@@ -163,11 +178,11 @@ pub fields_written : (b0 b1 b2 b3 b4 b5 b6 b7 b8 i : List ℕ) (address generati
 fields_written b0 b1 b2 b3 b4 b5 b6 b7 b8 i address generation owner level small w1 w2 w3 w4 w5 w6 w7 w8 =
     let byte : level % 256 ≡ level = omega arith in
     w8 ∙ ap (λ n. with_bytes b7 100 (n ∷ [])) (sym byte) ∙ ap (λ b. with_bytes b 100 (number_bytes 1 level)) (
-      w7 ∙ ap (λ b. with_bytes b 88 (number_bytes 8 owner)) (
-        w6 ∙ ap (λ b. with_bytes b 80 (number_bytes 8 generation)) (
-          w5 ∙ ap (λ b. with_bytes b 64 (zeros 16)) (
-            w4 ∙ ap (λ b. with_bytes b 56 (number_bytes 8 (1 + 2 ^ 56))) (
-              w3 ∙ ap (λ b. with_bytes b 48 (number_bytes 8 address)) (w2 ∙ ap (λ b. with_bytes b 32 i) w1))))))
+    w7 ∙ ap (λ b. with_bytes b 88 (number_bytes 8 owner)) (
+    w6 ∙ ap (λ b. with_bytes b 80 (number_bytes 8 generation)) (
+    w5 ∙ ap (λ b. with_bytes b 64 (zeros 16)) (
+    w4 ∙ ap (λ b. with_bytes b 56 (number_bytes 8 (1 + 2 ^ 56))) (
+    w3 ∙ ap (λ b. with_bytes b 48 (number_bytes 8 address)) (w2 ∙ ap (λ b. with_bytes b 32 i) w1))))))
 
 -- what stands in the fields that are written
 pub fields_hold : (b0 b8 : List ℕ) (want : Want) → length b0 ≡ 4096 → length want.fsid ≡ 16 → want.at.0 < 2 ^ 64 → want.generation < 2 ^ 64 → want.owner < 2 ^ 64 → want.level < 2 ^ 8

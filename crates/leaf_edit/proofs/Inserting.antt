@@ -1,18 +1,18 @@
 -- An item put into a packed leaf, step by step.
-use Rattle.std.proofs.Common.{◌≡◌, ◌≤◌, ◌<◌, ◌+◌, ◌-◌, ◌*◌, ◌^◌, ℕ, List, ◌∷◌, ◌++◌, length, take, drop, get_or, map, true, refl, ap, arith, ◌∙◌, sym, inl, inr, length-append, length-drop, append_assoc}
+use Rattle.std.proofs.Common.{◌≡◌, ◌≤◌, ◌<◌, ◌+◌, ◌-◌, ◌*◌, ℕ, List, ◌++◌, length, take, drop, get_or, true, refl, ap, arith, ◌∙◌, sym, inl, inr, length-append, length-drop, append_assoc}
 use Rattle.std.specs.Prelude.{insert}
 use Rattle.std.proofs.lemmas.Bool.{cases_order}
-use Rattle.std.proofs.lemmas.List.{length-take-le, take_at, take-append-le}
+use Rattle.std.proofs.lemmas.List.{length-take-le, take_at}
 use Rattle.std.proofs.lemmas.List.Edits.{length-insert, get_or-insert_below, get_or-insert_at, get_or-insert_above}
 use Rattle.blk_base.specs.declared.key.Key.{Key}
-use Rattle.blk_base.specs.Bytes.{field, bytes_at, with_bytes, number_bytes}
+use Rattle.blk_base.specs.Bytes.{bytes_at, with_bytes, number_bytes}
 use Rattle.blk_base.specs.Keys.{KeyFits, keys_rise}
 use Rattle.blk_base.specs.Leaf.{Item, data_of, count_of, header_at}
 use Rattle.leaf_view.specs.Search.{keys_of}
 use Rattle.leaf_edit.specs.declared.header.Header.{Header}
 use Rattle.leaf_edit.specs.Packed.{IsPacked, HeaderFits, header_of, header_bytes, data_before, place_of, packed_header, lowered}
 use Rattle.leaf_edit.proofs.Amounts.{data_before_more, data_before_le, data_before_rises, data_before-insert_below, data_before-insert_above, data_of-insert}
-use Rattle.leaf_edit.proofs.Fronts.{same_header, header_part, header_reads_back, length-header_bytes, number_reads_back, behind}
+use Rattle.leaf_edit.proofs.Fronts.{header_reads_back, length-header_bytes, number_reads_back, behind}
 use Rattle.leaf_edit.proofs.Parts.{part_within, part_in_back, back_in_back, take-with_bytes, drop-with_bytes, drop-with_bytes_here, length-with_bytes}
 use Rattle.leaf_edit.proofs.Shifts.{header_in_front, header_in_back, header-with_header_below, header-with_header_above}
 
@@ -147,7 +147,7 @@ module _ (b0 b1 b2 b3 b4 : List ℕ) (items : List Item) (at low bound : ℕ) (k
       let rest = drop (start + length (moved_part ++ content)) b0 in
       let split : drop start b4 ≡ moved_part ++ (content ++ rest) = data_whole ∙ append_assoc moved_part content rest in
       let same : bytes_at (bound - low) b4 start ≡ bytes_at (bound - low) b0 (101 + low) =
-          ap (take (bound - low)) split ∙ take_at moved_part (content ++ rest) (bound - low) long_moved ∙ ap (λ n. bytes_at n b0 (101 + low)) (omega arith) in
+      ap (take (bound - low)) split ∙ take_at moved_part (content ++ rest) (bound - low) long_moved ∙ ap (λ n. bytes_at n b0 (101 + low)) (omega arith) in
       let first : start + (from - low) ≡ 101 + (from - length content) = omega (arith, low_room) in
       let second : 101 + low + (from - low) ≡ 101 + from = omega arith in
       ap (λ a. bytes_at n b4 a) (sym first) ∙ part_within b4 b0 start (101 + low) (bound - low) (from - low) n same (omega (arith, bound_ge)) ∙ ap (λ a. bytes_at n b0 a) second
@@ -180,13 +180,13 @@ module _ (b0 b1 b2 b3 b4 : List ℕ) (items : List Item) (at low bound : ℕ) (k
   header_in_after : (i : ℕ) (d : Item) → i < length items + 1 → header_of b4 i ≡ packed_header after i (get_or after i d)
   header_in_after i d within =
       elim (cases_order i at) [
-        inl e ↦ rw (e, item_here d, amount_above at (omega arith), place_here) header_here
-      | inr other ↦ elim other [
-          inl lower ↦ rw (item_below i d lower, amount_below (i + 1) (omega arith)) (header_below i lower ∙ h.packed.headers i d (let w = h.within in omega arith))
-        | inr upper ↦
-            let j = i - 1 in
-            let is : i ≡ j + 1 = omega arith in
-            rw (is, item_above j d (omega arith), amount_above (j + 1) (omega arith), place_above j)
+        | inl e ↦ rw (e, item_here d, amount_above at (omega arith), place_here) header_here
+        | inr other ↦ elim other [
+          | inl lower ↦ rw (item_below i d lower, amount_below (i + 1) (omega arith)) (header_below i lower ∙ h.packed.headers i d (let w = h.within in omega arith))
+          | inr upper ↦
+              let j = i - 1 in
+              let is : i ≡ j + 1 = omega arith in
+              rw (is, item_above j d (omega arith), amount_above (j + 1) (omega arith), place_above j)
               (header_above j (omega arith) (omega arith) ∙ ap (lowered (length content)) (h.packed.headers j d (omega arith)))
         ]
       ]
@@ -194,23 +194,23 @@ module _ (b0 b1 b2 b3 b4 : List ℕ) (items : List Item) (at low bound : ℕ) (k
   content_in_after : (i : ℕ) (d : Item) → i < length items + 1 → bytes_at (length (get_or after i d).1) b4 (101 + place_of after i) ≡ (get_or after i d).1
   content_in_after i d within =
       elim (cases_order i at) [
-        inl e ↦ rw (e, item_here d, amount_above at (omega arith), place_here) data_here
-      | inr other ↦ elim other [
-          inl lower ↦
-            let inside : i < length items = let w = h.within in omega arith in
-            let higher : bound ≤ place_of items i = let b = h.bound_is in omega (arith, data_before_rises items (i + 1) at (omega arith)) in
-            rw (item_below i d lower, amount_below (i + 1) (omega arith)) (data_below (place_of items i) (length (get_or items i d).1) higher ∙ h.packed.contents i d inside)
-        | inr upper ↦
-            let j = i - 1 in
-            let is : i ≡ j + 1 = omega arith in
-            let inside : j < length items = omega arith in
-            let more = data_before_more items j d inside in
-            let not_below : low ≤ place_of items j = let a = h.low_is in omega (arith, data_before_le items (j + 1)) in
-            let not_above : place_of items j + length (get_or items j d).1 ≤ bound =
-                let b = h.bound_is in
-                let f = h.packed.fits in
-                omega (arith, data_before_rises items at j (omega arith), data_before_le items (j + 1)) in
-            rw (is, item_above j d (omega arith), amount_above (j + 1) (omega arith), place_above j) (data_above (place_of items j) (length (get_or items j d).1) not_below not_above ∙ h.packed.contents j d inside)
+        | inl e ↦ rw (e, item_here d, amount_above at (omega arith), place_here) data_here
+        | inr other ↦ elim other [
+          | inl lower ↦
+              let inside : i < length items = let w = h.within in omega arith in
+              let higher : bound ≤ place_of items i = let b = h.bound_is in omega (arith, data_before_rises items (i + 1) at (omega arith)) in
+              rw (item_below i d lower, amount_below (i + 1) (omega arith)) (data_below (place_of items i) (length (get_or items i d).1) higher ∙ h.packed.contents i d inside)
+          | inr upper ↦
+              let j = i - 1 in
+              let is : i ≡ j + 1 = omega arith in
+              let inside : j < length items = omega arith in
+              let more = data_before_more items j d inside in
+              let not_below : low ≤ place_of items j = let a = h.low_is in omega (arith, data_before_le items (j + 1)) in
+              let not_above : place_of items j + length (get_or items j d).1 ≤ bound =
+              let b = h.bound_is in
+              let f = h.packed.fits in
+              omega (arith, data_before_rises items at j (omega arith), data_before_le items (j + 1)) in
+              rw (is, item_above j d (omega arith), amount_above (j + 1) (omega arith), place_above j) (data_above (place_of items j) (length (get_or items j d).1) not_below not_above ∙ h.packed.contents j d inside)
         ]
       ]
 

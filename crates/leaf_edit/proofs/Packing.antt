@@ -1,12 +1,12 @@
 -- A leaf that is seen to be packed.
-use Rattle.std.proofs.Common.{◌≡◌, ◌≤◌, ◌<◌, ◌+◌, ◌-◌, ◌*◌, ℕ, suc, zero, List, [], ◌∷◌, ◌++◌, length, take, drop, get_or, map, true, refl, ap, arith, ◌∙◌, sym, inl, inr, Result, Ok, Err, IsOk, length-drop}
+use Rattle.std.proofs.Common.{◌≡◌, ◌≤◌, ◌<◌, ◌+◌, ◌-◌, ◌*◌, ℕ, suc, zero, List, [], ◌∷◌, ◌++◌, length, drop, get_or, map, true, refl, ap, arith, ◌∙◌, sym, inl, inr, Result, Ok, Err, IsOk, length-drop}
 use Rattle.std.proofs.lemmas.Bool.{cases_eq}
 use Rattle.std.proofs.lemmas.List.{length-take-le}
 use Rattle.std.specs.List.{range_with_len}
 use Rattle.blk_base.specs.declared.fault.BlockFault.{BlockFault}
 use Rattle.blk_base.specs.Bytes.{bytes_at}
 use Rattle.blk_base.specs.Keys.{keys_rise}
-use Rattle.blk_base.specs.Leaf.{Item, IsLeafBody, leaf_body_of, data_of, room_of, count_of, below, item_of, item_key, item_offset, item_size}
+use Rattle.blk_base.specs.Leaf.{Item, IsLeafBody, leaf_body_of, data_of, room_of, count_of, item_of, item_key, item_offset, item_size}
 use Rattle.leaf_view.specs.Listed.{items_in}
 use Rattle.leaf_view.specs.Search.{keys_of}
 use Rattle.leaf_view.proofs.LeafLaws.{body_passes, leaf_body_means, leaf_body_listed}
@@ -48,8 +48,8 @@ pub packed_more : (bytes : List ℕ) (i bound : ℕ) → length bytes ≡ 4096 �
 packed_more bytes i bound long body within h ends =
     let items = items_in bytes in
     let here : item_offset bytes i ≡ place_of items i =
-        let b = h.bound_is in
-        omega (arith, size_is bytes i long body within, data_before_more items i (item_of bytes i) within) in record {
+    let b = h.bound_is in
+    omega (arith, size_is bytes i long body within, data_before_more items i (item_of bytes i) within) in record {
       bound_is = here;
       offsets = λ j lower. elim (cases_eq j i) [ inl e ↦ rw e here | inr other ↦ h.offsets j (omega arith) ];
     }
@@ -66,13 +66,13 @@ packed_all bytes i bound long ok all h =
       fits = body_fits bytes items long body;
       rise = ok_rise bytes ok;
       headers = λ j d within.
-        let item = item_at bytes items j d body within in
-        let size : length (item_of bytes j).1 ≡ item_size bytes j = length-take-le (item_size bytes j) (drop (101 + item_offset bytes j) bytes) (omega (arith, length-drop (101 + item_offset bytes j) bytes, body.inside j within)) in
-        rw item (same_header (header_of bytes j) (packed_header items j (item_of bytes j)) refl (h.offsets j (omega arith)) (sym size));
+          let item = item_at bytes items j d body within in
+          let size : length (item_of bytes j).1 ≡ item_size bytes j = length-take-le (item_size bytes j) (drop (101 + item_offset bytes j) bytes) (omega (arith, length-drop (101 + item_offset bytes j) bytes, body.inside j within)) in
+          rw item (same_header (header_of bytes j) (packed_header items j (item_of bytes j)) refl (h.offsets j (omega arith)) (sym size));
       contents = λ j d within.
-        let item = item_at bytes items j d body within in
-        let size : length (item_of bytes j).1 ≡ item_size bytes j = length-take-le (item_size bytes j) (drop (101 + item_offset bytes j) bytes) (omega (arith, length-drop (101 + item_offset bytes j) bytes, body.inside j within)) in
-        rw item (ap (λ n. bytes_at n bytes (101 + place_of items j)) size ∙ ap (λ p. bytes_at (item_size bytes j) bytes (101 + p)) (sym (h.offsets j (omega arith))));
+          let item = item_at bytes items j d body within in
+          let size : length (item_of bytes j).1 ≡ item_size bytes j = length-take-le (item_size bytes j) (drop (101 + item_offset bytes j) bytes) (omega (arith, length-drop (101 + item_offset bytes j) bytes, body.inside j within)) in
+          rw item (ap (λ n. bytes_at n bytes (101 + place_of items j)) size ∙ ap (λ p. bytes_at (item_size bytes j) bytes (101 + p)) (sym (h.offsets j (omega arith))));
     }
 
 -- a leaf that is packed anew: its items fit an empty leaf, in their order

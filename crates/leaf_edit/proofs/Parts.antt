@@ -1,16 +1,15 @@
 -- Parts of the bytes of a block: what a write leaves, and what fields they hold.
-use Rattle.std.proofs.Common.{◌≡◌, ◌≤◌, ◌<◌, ◌+◌, ◌-◌, ◌*◌, ◌^◌, ℕ, suc, zero, List, [], ◌∷◌, ◌++◌, length, take, drop, get_or, min, refl, ap, arith, ◌∙◌, sym, length-append, length-take, length-drop, append_assoc}
-use Rattle.std.proofs.lemmas.List.{take-take, drop-drop, drop-take, take-append-le, take_at, drop_at, get_or-take, length-take-le, drop_all}
+use Rattle.std.proofs.Common.{◌≡◌, ◌≤◌, ◌+◌, ◌-◌, ◌*◌, ℕ, suc, zero, List, ◌++◌, length, take, drop, get_or, refl, ap, arith, ◌∙◌, sym, length-append, length-drop, append_assoc}
+use Rattle.std.proofs.lemmas.List.{take-take, drop-drop, drop-take, take-append-le, take_at, drop_at, get_or-take, length-take-le}
 use Rattle.std.specs.List.{copy_within}
 use Rattle.byteorder.specs.Endian.{little_from}
-use Rattle.byteorder.specs.Numbers.{little_number-reads_back, length-bytes_low_first}
-use Rattle.blk_base.specs.Bytes.{field, bytes_at, with_bytes, number_bytes}
+use Rattle.blk_base.specs.Bytes.{field, bytes_at, with_bytes}
 
 -- a part of equal parts
 pub part_within : (xs ys : List ℕ) (a b n k m : ℕ) → bytes_at n xs a ≡ bytes_at n ys b → k + m ≤ n → bytes_at m xs (a + k) ≡ bytes_at m ys (b + k)
 part_within xs ys a b n k m same within =
     let inner : (zs : List ℕ) (c : ℕ) → bytes_at m zs (c + k) ≡ drop k (take (k + m) (bytes_at n zs c)) = λ zs c.
-        ap (take m) (sym (drop-drop k c zs)) ∙ sym (drop-take k m (drop c zs)) ∙ ap (drop k) (sym (take-take (k + m) n (drop c zs) within)) in
+    ap (take m) (sym (drop-drop k c zs)) ∙ sym (drop-take k m (drop c zs)) ∙ ap (drop k) (sym (take-take (k + m) n (drop c zs) within)) in
     inner xs a ∙ ap (λ part. drop k (take (k + m) part)) same ∙ sym (inner ys b)
 
 pub part_in_front : (xs ys : List ℕ) (n a m : ℕ) → take n xs ≡ take n ys → a + m ≤ n → bytes_at m xs a ≡ bytes_at m ys a

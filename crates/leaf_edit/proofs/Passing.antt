@@ -1,15 +1,14 @@
 -- A packed leaf is a leaf's body.
-use Rattle.std.proofs.Common.{◌≡◌, ◌≤◌, ◌<◌, ◌+◌, ◌-◌, ◌*◌, ℕ, suc, zero, List, [], ◌∷◌, length, take, drop, get_or, map, true, refl, ap, arith, ◌∙◌, sym, subst, Some, Ok, slice_get, length-drop}
-use Rattle.std.proofs.lemmas.List.{length-map, length-take-le}
-use Rattle.std.proofs.lemmas.Option.{slice_get-get_or, get_or_from_slice_get}
+use Rattle.std.proofs.Common.{◌≡◌, ◌<◌, ◌+◌, ◌-◌, ℕ, suc, zero, List, [], ◌∷◌, length, get_or, true, ap, arith, ◌∙◌, sym, subst, Some, Ok}
+use Rattle.std.proofs.lemmas.Option.{slice_get-get_or}
 use Rattle.blk_base.specs.declared.key.Key.{Key}
 use Rattle.blk_base.specs.Bytes.{bytes_at}
 use Rattle.blk_base.specs.Keys.{KeyBelow, keys_rise}
-use Rattle.blk_base.specs.Leaf.{Item, IsLeafBody, HasByte, leaf_body_of, data_of, count_of, item_of, item_key, item_offset, item_size, item_end}
+use Rattle.blk_base.specs.Leaf.{Item, IsLeafBody, leaf_body_of, item_of, item_key, item_offset, item_size, item_end}
 use Rattle.leaf_view.specs.Listed.{items_in}
 use Rattle.leaf_view.specs.Search.{keys_of}
 use Rattle.leaf_view.proofs.LeafLaws.{leaf_body_from, leaf_body_listed}
-use Rattle.leaf_edit.specs.Packed.{IsPacked, header_of, data_before, place_of}
+use Rattle.leaf_edit.specs.Packed.{IsPacked, data_before, place_of}
 use Rattle.leaf_edit.proofs.Amounts.{data_before_more, data_before_le, data_before_rises}
 use Rattle.leaf_edit.proofs.Rises.{rise_head, rise_tail}
 
@@ -25,7 +24,7 @@ item_is : (bytes : List ℕ) (items : List Item) (i : ℕ) (d : Item) → IsPack
 item_is bytes items i d h within =
     let header = h.headers i d within in
     let stored : (get_or items i d).1 ≡ bytes_at (item_size bytes i) bytes (101 + item_offset bytes i) =
-        sym (h.contents i d within) ∙ ap (λ p. bytes_at (length (get_or items i d).1) bytes (101 + p)) (sym (ap (λ x. x.offset) header)) ∙ ap (λ n. bytes_at n bytes (101 + item_offset bytes i)) (sym (ap (λ x. x.size) header)) in
+    sym (h.contents i d within) ∙ ap (λ p. bytes_at (length (get_or items i d).1) bytes (101 + p)) (sym (ap (λ x. x.offset) header)) ∙ ap (λ n. bytes_at n bytes (101 + item_offset bytes i)) (sym (ap (λ x. x.size) header)) in
     let key : (get_or items i d).0 ≡ item_key bytes i = sym (ap (λ x. x.key) header) in
     ap (λ k. (k, (get_or items i d).1)) key ∙ ap (λ c. (item_key bytes i, c)) stored
 
@@ -48,17 +47,17 @@ packed_body bytes items h =
       most = omega arith;
       each = λ i within. slice_get-get_or items i (item_of bytes i) within ∙ ap (λ item. Some item) (item_is bytes items i (item_of bytes i) h within);
       order = λ i within.
-        let d = item_of bytes i in
-        let one : (get_or items i d).0 ≡ item_key bytes i = ap (λ item. item.0) (item_is bytes items i d h (omega arith)) in
-        let two : (get_or items (i + 1) d).0 ≡ item_key bytes (i + 1) = ap (λ item. item.0) (item_is bytes items (i + 1) d h within) in
-        let next : suc i ≡ i + 1 = omega arith in
-        below_both _ _ _ _ one (ap (λ n. (get_or items n d).0) next ∙ two) (rise_at items i d h.rise (omega arith));
+          let d = item_of bytes i in
+          let one : (get_or items i d).0 ≡ item_key bytes i = ap (λ item. item.0) (item_is bytes items i d h (omega arith)) in
+          let two : (get_or items (i + 1) d).0 ≡ item_key bytes (i + 1) = ap (λ item. item.0) (item_is bytes items (i + 1) d h within) in
+          let next : suc i ≡ i + 1 = omega arith in
+          below_both _ _ _ _ one (ap (λ n. (get_or items n d).0) next ∙ two) (rise_at items i d h.rise (omega arith));
       behind_headers = λ i within. omega (arith, offset_is bytes items i h within, data_before_le items (i + 1));
       inside = λ i within. omega (arith, end_is bytes items i h within);
       apart = λ i j at lower within one other.
-        let from = one.from in
-        let below = other.below in
-        omega (arith, offset_is bytes items i h (omega arith), end_is bytes items j h within, data_before_rises items (i + 1) j (omega arith));
+          let from = one.from in
+          let below = other.below in
+          omega (arith, offset_is bytes items i h (omega arith), end_is bytes items j h within, data_before_rises items (i + 1) j (omega arith));
     }
 
 -- what the checks give of a packed leaf

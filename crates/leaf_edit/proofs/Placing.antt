@@ -1,6 +1,6 @@
 -- A key put in where a search says that it belongs.
-use Rattle.std.proofs.Common.{◌≡◌, ◌≤◌, ◌<◌, ◌+◌, ◌-◌, ℕ, suc, zero, true, List, [], ◌∷◌, ◌++◌, length, take, drop, map, get_or, refl, ap, arith, ◌∙◌, sym}
-use Rattle.std.specs.Prelude.{insert, All}
+use Rattle.std.proofs.Common.{◌≡◌, ℕ, suc, zero, true, List, [], ◌∷◌, take, refl, ap, arith, ◌∙◌}
+use Rattle.std.specs.Prelude.{insert}
 use Rattle.std.proofs.lemmas.List.Elements.{All-head, All-tail}
 use Rattle.blk_base.specs.declared.key.Key.{Key}
 use Rattle.blk_base.specs.Keys.{KeyBelow, keys_rise}

@@ -1,18 +1,15 @@
 -- An item taken out of a packed leaf, step by step.
-use Rattle.std.proofs.Common.{◌≡◌, ◌≤◌, ◌<◌, ◌+◌, ◌-◌, ◌*◌, ◌^◌, ℕ, List, ◌∷◌, ◌++◌, length, take, drop, get_or, map, true, refl, ap, arith, ◌∙◌, sym, inl, inr, length-append, length-drop, append_assoc}
+use Rattle.std.proofs.Common.{◌≡◌, ◌≤◌, ◌<◌, ◌+◌, ◌-◌, ℕ, List, ◌++◌, length, take, drop, get_or, ap, arith, ◌∙◌, sym, inl, inr, length-drop}
 use Rattle.std.specs.Prelude.{remove}
 use Rattle.std.proofs.lemmas.Bool.{cases_lt}
 use Rattle.std.proofs.lemmas.List.{length-take-le, take_at}
 use Rattle.std.proofs.lemmas.List.Edits.{length-remove, get_or-remove_below, get_or-remove_above}
-use Rattle.blk_base.specs.Bytes.{field, bytes_at, with_bytes, number_bytes}
-use Rattle.blk_base.specs.Keys.{keys_rise}
+use Rattle.blk_base.specs.Bytes.{bytes_at, with_bytes, number_bytes}
 use Rattle.blk_base.specs.Leaf.{Item, data_of, count_of, header_at}
-use Rattle.leaf_view.specs.Search.{keys_of}
-use Rattle.leaf_edit.specs.declared.header.Header.{Header}
 use Rattle.leaf_edit.specs.Packed.{IsPacked, header_of, data_before, place_of, packed_header, raised}
 use Rattle.leaf_edit.proofs.Amounts.{data_before_more, data_before_le, data_before_rises, data_before-remove_below, data_before-remove_above, data_of-remove}
 use Rattle.leaf_edit.proofs.Fronts.{number_reads_back}
-use Rattle.leaf_edit.proofs.Parts.{part_within, part_in_back, back_in_back, take-with_bytes, drop-with_bytes, drop-with_bytes_here, length-with_bytes}
+use Rattle.leaf_edit.proofs.Parts.{part_within, part_in_back, back_in_back, drop-with_bytes, drop-with_bytes_here, length-with_bytes}
 use Rattle.leaf_edit.proofs.Rises.{rise-remove}
 use Rattle.leaf_edit.proofs.Shifts.{header_in_front, header_in_back, header-with_bytes}
 
@@ -99,9 +96,9 @@ module _ (b0 b1 b2 b3 : List ℕ) (items : List Item) (at low start by : ℕ) (d
   data_above from n upper within =
       let rest = drop (101 + low + by + length moved_part) b0 in
       let whole : drop (101 + low + by) b3 ≡ moved_part ++ rest =
-          back_in_back b3 b1 headers_end (101 + low + by) behind_headers (omega (arith, low_room)) ∙ ap (drop (101 + low + by)) h.made ∙ drop-with_bytes_here b0 (101 + low + by) moved_part to_le in
+      back_in_back b3 b1 headers_end (101 + low + by) behind_headers (omega (arith, low_room)) ∙ ap (drop (101 + low + by)) h.made ∙ drop-with_bytes_here b0 (101 + low + by) moved_part to_le in
       let same : bytes_at (start - low) b3 (101 + low + by) ≡ bytes_at (start - low) b0 (101 + low) =
-          ap (take (start - low)) whole ∙ take_at moved_part rest (start - low) long_moved ∙ ap (λ n. bytes_at n b0 (101 + low)) (omega arith) in
+      ap (take (start - low)) whole ∙ take_at moved_part rest (start - low) long_moved ∙ ap (λ n. bytes_at n b0 (101 + low)) (omega arith) in
       let first : 101 + low + by + (from - low) ≡ 101 + (from + by) = omega arith in
       let second : 101 + low + (from - low) ≡ 101 + from = omega arith in
       ap (λ a. bytes_at n b3 a) (sym first) ∙ part_within b3 b0 (101 + low + by) (101 + low) (start - low) (from - low) n same (omega (arith, start_ge)) ∙ ap (λ a. bytes_at n b0 a) second
@@ -128,24 +125,24 @@ module _ (b0 b1 b2 b3 : List ℕ) (items : List Item) (at low start by : ℕ) (d
   header_in_after : (i : ℕ) (e : Item) → i + 1 < length items → header_of b3 i ≡ packed_header after i (get_or after i e)
   header_in_after i e within =
       elim (cases_lt i at) [
-        inl lower ↦ rw (item_below i e lower, amount_below (i + 1) (omega arith)) (header_below i lower ∙ h.packed.headers i e (omega arith))
-      | inr upper ↦ rw (item_above i e upper, place_above i upper within) (header_above i upper within ∙ ap (raised by) (h.packed.headers (i + 1) e within))
+        | inl lower ↦ rw (item_below i e lower, amount_below (i + 1) (omega arith)) (header_below i lower ∙ h.packed.headers i e (omega arith))
+        | inr upper ↦ rw (item_above i e upper, place_above i upper within) (header_above i upper within ∙ ap (raised by) (h.packed.headers (i + 1) e within))
       ]
 
   content_in_after : (i : ℕ) (e : Item) → i + 1 < length items → bytes_at (length (get_or after i e).1) b3 (101 + place_of after i) ≡ (get_or after i e).1
   content_in_after i e within =
       elim (cases_lt i at) [
-        inl lower ↦
-          let higher : start + by ≤ place_of items i = let b = bound_is in omega (arith, data_before_rises items (i + 1) at (omega arith)) in
-          rw (item_below i e lower, amount_below (i + 1) (omega arith)) (data_below (place_of items i) (length (get_or items i e).1) higher ∙ h.packed.contents i e (omega arith))
-      | inr upper ↦
-          let more = data_before_more items (i + 1) e within in
-          let not_below : low ≤ place_of items (i + 1) = let a = h.low_is in omega (arith, data_before_le items (i + 1 + 1)) in
-          let not_above : place_of items (i + 1) + length (get_or items (i + 1) e).1 ≤ start =
-              let s = h.start_is in
-              let f = h.packed.fits in
-              omega (arith, data_before_rises items (at + 1) (i + 1) (omega arith), data_before_le items (i + 1 + 1)) in
-          rw (item_above i e upper, place_above i upper within) (data_above (place_of items (i + 1)) (length (get_or items (i + 1) e).1) not_below not_above ∙ h.packed.contents (i + 1) e within)
+        | inl lower ↦
+            let higher : start + by ≤ place_of items i = let b = bound_is in omega (arith, data_before_rises items (i + 1) at (omega arith)) in
+            rw (item_below i e lower, amount_below (i + 1) (omega arith)) (data_below (place_of items i) (length (get_or items i e).1) higher ∙ h.packed.contents i e (omega arith))
+        | inr upper ↦
+            let more = data_before_more items (i + 1) e within in
+            let not_below : low ≤ place_of items (i + 1) = let a = h.low_is in omega (arith, data_before_le items (i + 1 + 1)) in
+            let not_above : place_of items (i + 1) + length (get_or items (i + 1) e).1 ≤ start =
+            let s = h.start_is in
+            let f = h.packed.fits in
+            omega (arith, data_before_rises items (at + 1) (i + 1) (omega arith), data_before_le items (i + 1 + 1)) in
+            rw (item_above i e upper, place_above i upper within) (data_above (place_of items (i + 1)) (length (get_or items (i + 1) e).1) not_below not_above ∙ h.packed.contents (i + 1) e within)
       ]
 
   pub removed : IsPacked b3 after

@@ -1,6 +1,6 @@
 -- Keys of items that rise, as the list is edited.
-use Rattle.std.proofs.Common.{◌≡◌, ◌≤◌, ◌<◌, ◌+◌, ◌-◌, ℕ, suc, zero, Bool, true, ◌&&◌, List, [], ◌∷◌, ◌++◌, length, take, drop, map, get_or, refl, ap, arith, ◌∙◌, sym, inl, inr}
-use Rattle.std.specs.Prelude.{remove, insert}
+use Rattle.std.proofs.Common.{◌≡◌, ℕ, suc, zero, true, List, [], ◌∷◌, take, drop, refl}
+use Rattle.std.specs.Prelude.{remove}
 use Rattle.std.proofs.lemmas.Bool.{and_parts, and_from}
 use Rattle.blk_base.specs.declared.key.Key.{Key}
 use Rattle.blk_base.specs.Keys.{KeyBelow, key_below, keys_rise}

@@ -1,8 +1,8 @@
 -- A step of a loop that moves item headers by one place.
-use Rattle.std.proofs.Common.{◌≡◌, ◌≤◌, ◌<◌, ◌+◌, ◌-◌, ◌*◌, ◌^◌, ℕ, List, length, take, drop, refl, ap, arith, ◌∙◌, sym, inl, inr}
+use Rattle.std.proofs.Common.{◌≡◌, ◌≤◌, ◌<◌, ◌+◌, ◌-◌, ◌^◌, ℕ, List, length, take, drop, ap, arith, ◌∙◌, inl, inr}
 use Rattle.std.proofs.lemmas.Bool.{cases_eq}
-use Rattle.blk_base.specs.Bytes.{bytes_at, with_bytes}
-use Rattle.blk_base.specs.Leaf.{header_at, item_offset}
+use Rattle.blk_base.specs.Bytes.{with_bytes}
+use Rattle.blk_base.specs.Leaf.{header_at}
 use Rattle.leaf_edit.specs.declared.header.Header.{Header}
 use Rattle.leaf_edit.specs.Packed.{HeaderFits, header_of, header_bytes, lowered, raised}
 use Rattle.leaf_edit.proofs.Fronts.{header_part, header_reads_back, length-header_bytes}
@@ -41,9 +41,9 @@ moved_up_more change old now new at count k h from within room fits made =
       long = length-with_bytes now (header_at (k + 1)) (header_bytes put) (omega (arith, length-header_bytes put)) ∙ long;
       from = from;
       moved = λ j low to. elim (cases_eq j k) [
-          inl e ↦ rw e (header_reads_back now (k + 1) put fits (omega arith) ∙ ap change before)
+        | inl e ↦ rw e (header_reads_back now (k + 1) put fits (omega arith) ∙ ap change before)
         | inr other ↦ header-with_header_above now (k + 1) (j + 1) put (omega arith) (omega arith) ∙ h.moved j (omega arith) to
-        ];
+      ];
       front = take-with_bytes now (header_at (k + 1)) (header_bytes put) (header_at (k + 1)) (omega arith) (omega arith) ∙ front_in_front now old (header_at (k + 1 + 1)) (header_at (k + 1)) h.front (omega arith);
       back = drop-with_bytes now (header_at (k + 1)) (header_bytes put) (header_at (count + 1)) (omega (arith, length-header_bytes put)) (omega arith) ∙ h.back;
     })
@@ -64,15 +64,15 @@ moved_down_more change old now new at i h from room fits made =
     rw made (record {
       long = length-with_bytes now (header_at (i - 1)) (header_bytes put) (omega (arith, length-header_bytes put)) ∙ long;
       moved = λ j low high. elim (cases_eq (j + 1) i) [
-          inl e ↦
+        | inl e ↦
             let there : i - 1 ≡ j = omega arith in
             rw (there, e) (header_reads_back now j (change (header_of now i)) fits (omega arith) ∙ ap change before)
         | inr other ↦ header-with_header_below now (i - 1) j put (omega arith) (omega arith) ∙ h.moved j low (omega arith)
-        ];
+      ];
       front = take-with_bytes now (header_at (i - 1)) (header_bytes put) (header_at at) (omega arith) (omega arith) ∙ h.front;
       back =
-        let next : i + 1 - 1 ≡ i = omega arith in
-        rw next (drop-with_bytes now (header_at (i - 1)) (header_bytes put) (header_at i) (omega (arith, length-header_bytes put)) (omega arith) ∙ back_in_back now old (header_at (i - 1)) (header_at i) h.back (omega arith));
+          let next : i + 1 - 1 ≡ i = omega arith in
+          rw next (drop-with_bytes now (header_at (i - 1)) (header_bytes put) (header_at i) (omega (arith, length-header_bytes put)) (omega arith) ∙ back_in_back now old (header_at (i - 1)) (header_at i) h.back (omega arith));
     })
 
 pub moved_up_last : (change : Header → Header) (old now new : List ℕ) (at count i : ℕ) (read : Header) → MovedUp change old now at count i → at < i → i ≤ count → count < 159

@@ -1,6 +1,5 @@
 -- Leaves whose data stand without a gap from the block's end downwards, as Btrfs packs them.
-use Rattle.std.specs.Prelude.{◌≡◌, ◌≤◌, ◌<◌, ◌+◌, ◌-◌, ◌*◌, ◌^◌, ℕ, List, [], ◌∷◌, ◌++◌, length, map, take, get_or, All, true}
-use Rattle.blk_base.specs.declared.key.Key.{Key}
+use Rattle.std.specs.Prelude.{◌≡◌, ◌≤◌, ◌<◌, ◌+◌, ◌-◌, ◌*◌, ◌^◌, ℕ, List, ◌++◌, length, take, get_or, true}
 use Rattle.blk_base.specs.Bytes.{number_bytes, bytes_at}
 use Rattle.blk_base.specs.Keys.{KeyFits, keys_rise}
 use Rattle.blk_base.specs.Leaf.{Item, count_of, item_key, item_offset, item_size, data_of}

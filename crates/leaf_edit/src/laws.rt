@@ -8,19 +8,16 @@ ghost use Rattle.leaf_edit.specs.Packed.{IsPacked};
 /// A packed leaf is a leaf's body. A law about the definitions.
 pub fn packed_leaves_pass()
     ensures { (bytes : List ℕ) (items : List Item) → IsPacked bytes items → leaf_body_of bytes ≡ Ok items }
-{
-}
+{}
 
 /// The items of any leaf fit one that is packed. A law about the definitions.
 pub fn leaves_fit()
     ensures { (bytes : List ℕ) (items : List Item) → length bytes ≡ 4096 → IsLeafBody bytes items → 25 * length items + data_of items ≤ 3995 }
-{
-}
+{}
 
 /// A key that is put in where a search says that it belongs leaves the keys rising: the condition of `insert`. A law
 /// about the definitions.
 pub fn places_keep_order()
     ensures items { (items : List Item) (at : ℕ) (key : Key) (bytes : List ℕ) → keys_rise (keys_of items) ≡ true → IsPlace (keys_of items) key at → keys_rise (keys_of (insert items at (key, bytes))) ≡ true }
     ensures pointers { (pointers : List Pointer) (at : ℕ) (pointer : Pointer) → keys_rise (pointer_keys pointers) ≡ true → IsPlace (pointer_keys pointers) pointer.key at → keys_rise (pointer_keys (insert pointers at pointer)) ≡ true }
-{
-}
+{}

@@ -13,8 +13,8 @@ mod seal;
 mod shift;
 mod whole;
 
-pub use laws::{leaves_fit, packed_leaves_pass, places_keep_order};
 pub use header::put_key;
+pub use laws::{leaves_fit, packed_leaves_pass, places_keep_order};
 pub use leaf_mut::LeafMut;
 pub use seal::seal_block;
 

@@ -42,7 +42,14 @@ pub fn seal_block(block: &mut Block, want: &Want)
     ensures count { count_of block.new ≡ count_of block.old }
     ensures body { drop 101 block.new ≡ drop 101 block.old }
 {
-    write_fields(block, &want.fsid, want.at.0, want.generation, want.owner, want.level);
+    write_fields(
+        block,
+        &want.fsid,
+        want.at.0,
+        want.generation,
+        want.owner,
+        want.level,
+    );
     let sum = crc32c(&block[32..]);
     put_u32(block, 0, sum);
 }

@@ -76,14 +76,33 @@ fn packs_an_odd_leaf(rt: HostRuntime) {
             block[at] = byte;
         }
     }
-    for (at, byte) in [(127, 1), (134, 12), (143, 0), (144, 8), (147, 3), (1225, b'x'), (2150, b'z')] {
+    for (at, byte) in [
+        (127, 1),
+        (134, 12),
+        (143, 0),
+        (144, 8),
+        (147, 3),
+        (1225, b'x'),
+        (2150, b'z'),
+    ] {
         let at: usize = at;
         if at < 4096 {
             block[at] = byte;
         }
     }
     assert!(rt; is_leaf_body(&block));
-    assert_eq!(rt; put(&mut block, Key { objectid: 256, kind: 2, offset: 0 }, b"new"), 3995 - 75 - 8);
+    assert_eq!(rt;
+        put(
+            &mut block,
+            Key {
+                objectid: 256,
+                kind: 2,
+                offset: 0
+            },
+            b"new"
+        ),
+        3995 - 75 - 8
+    );
     assert!(rt; is_leaf_body(&block));
     let leaf = LeafView::of_body(&block);
     assert_eq!(rt; leaf.len(), 3);

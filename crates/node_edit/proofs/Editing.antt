@@ -1,8 +1,8 @@
 -- What an editor of a node shows before and after an edit.
-use Rattle.std.proofs.Common.{◌≡◌, ◌≤◌, ◌<◌, ◌+◌, ◌-◌, ℕ, true, List, [], ◌++◌, length, take, drop, map, refl, ap, arith, ◌∙◌, sym, Ok}
+use Rattle.std.proofs.Common.{◌≡◌, ◌≤◌, ℕ, true, List, [], ◌++◌, length, drop, ap, arith, ◌∙◌, sym, Ok}
 use Rattle.std.proofs.lemmas.List.{drop-map}
 use Rattle.blk_base.specs.Keys.{keys_rise}
-use Rattle.blk_base.specs.Leaf.{Pointer, node_body_of, count_of, pointer_at}
+use Rattle.blk_base.specs.Leaf.{Pointer, node_body_of, count_of}
 use Rattle.leaf_view.specs.Listed.{pointers_in}
 use Rattle.leaf_view.specs.Search.{pointer_keys}
 use Rattle.leaf_edit.proofs.Rises.{rise-drop}

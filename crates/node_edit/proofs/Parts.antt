@@ -1,20 +1,20 @@
 -- Pointers as a block holds them: what a write leaves of them, and reads back.
-use Rattle.std.proofs.Common.{◌≡◌, ◌≤◌, ◌<◌, ◌+◌, ◌-◌, ◌*◌, ◌^◌, ℕ, suc, zero, List, [], ◌∷◌, ◌++◌, length, take, drop, get_or, map, true, refl, ap, arith, ◌∙◌, sym, subst, Some, Ok, IsOk, Result, Err, slice_get, append_assoc, length-append}
+use Rattle.std.proofs.Common.{◌≡◌, ◌≤◌, ◌<◌, ◌+◌, ◌^◌, ℕ, suc, zero, List, [], ◌∷◌, ◌++◌, length, take, drop, get_or, map, true, refl, ap, arith, ◌∙◌, sym, subst, Some, Ok, IsOk, Result, Err, append_assoc}
 use Rattle.std.proofs.lemmas.List.{same_lists}
-use Rattle.std.proofs.lemmas.List.FromFn.{length-map-range_with_len, get_or-map-range_with_len}
+use Rattle.std.proofs.lemmas.List.FromFn.{get_or-map-range_with_len}
 use Rattle.std.proofs.lemmas.Option.{slice_get-get_or, get_or_from_slice_get}
 use Rattle.std.specs.List.{range_with_len}
 use Rattle.blk_base.specs.declared.key.Key.{Key}
 use Rattle.blk_base.specs.declared.fault.BlockFault.{BlockFault}
-use Rattle.blk_base.specs.Bytes.{field, bytes_at, with_bytes, number_bytes}
+use Rattle.blk_base.specs.Bytes.{bytes_at, with_bytes, number_bytes}
 use Rattle.blk_base.specs.Keys.{KeyBelow, KeyFits, key_at, keys_rise}
-use Rattle.blk_base.specs.Leaf.{Pointer, IsNodeBody, node_body_of, count_of, pointer_at, pointer_of, below}
+use Rattle.blk_base.specs.Leaf.{Pointer, IsNodeBody, node_body_of, count_of, pointer_at, pointer_of}
 use Rattle.leaf_view.specs.Listed.{pointers_in}
 use Rattle.leaf_view.specs.Search.{pointer_keys}
 use Rattle.leaf_view.proofs.NodeLaws.{node_body_from, node_body_means, node_body_listed, length_pointers_in, body_passes}
 use Rattle.leaf_edit.specs.Images.{key_image}
 use Rattle.leaf_edit.proofs.Fronts.{key_part, key_reads_back, number_reads_back, behind, length-key_image}
-use Rattle.leaf_edit.proofs.Parts.{part_within, part_in_front, part_in_back, field_part, drop-with_bytes, drop-with_bytes_here, length-with_bytes}
+use Rattle.leaf_edit.proofs.Parts.{part_within, part_in_front, part_in_back, field_part, drop-with_bytes_here}
 use Rattle.leaf_edit.proofs.Rises.{rise_head, rise_tail}
 use Rattle.node_edit.specs.Pointers.{HasPointers, pointer_image}
 
@@ -56,20 +56,20 @@ pointer_reads_back bytes i pointer fits within =
     let rest = drop (pointer_at i + length (pointer_image pointer)) bytes in
     let last = number_bytes 8 pointer.generation ++ rest in
     let whole : drop (pointer_at i) new ≡ key_image pointer.key ++ (number_bytes 8 pointer.at ++ last) =
-        drop-with_bytes_here bytes (pointer_at i) (pointer_image pointer) within
-        ∙ append_assoc (key_image pointer.key ++ number_bytes 8 pointer.at) (number_bytes 8 pointer.generation) rest
-        ∙ append_assoc (key_image pointer.key) (number_bytes 8 pointer.at) last in
+    drop-with_bytes_here bytes (pointer_at i) (pointer_image pointer) within
+    ∙ append_assoc (key_image pointer.key ++ number_bytes 8 pointer.at) (number_bytes 8 pointer.generation) rest
+    ∙ append_assoc (key_image pointer.key) (number_bytes 8 pointer.at) last in
     let after_key : drop (pointer_at i + 17) new ≡ number_bytes 8 pointer.at ++ last = behind new (pointer_at i) (pointer_at i + 17) (key_image pointer.key) (number_bytes 8 pointer.at ++ last) whole (ap (λ n. pointer_at i + n) (length-key_image pointer.key)) in
     let after_at : drop (pointer_at i + 25) new ≡ last = behind new (pointer_at i + 17) (pointer_at i + 25) (number_bytes 8 pointer.at) last after_key (omega arith) in
     same_pointer (pointer_of new i) pointer (key_reads_back new (pointer_at i) pointer.key (number_bytes 8 pointer.at ++ last) fits.key whole)
-      (number_reads_back 8 new (pointer_at i + 17) pointer.at last after_key (let f = fits.at in omega arith)) (number_reads_back 8 new (pointer_at i + 25) pointer.generation rest after_at (let f = fits.generation in omega arith))
+    (number_reads_back 8 new (pointer_at i + 17) pointer.at last after_key (let f = fits.at in omega arith)) (number_reads_back 8 new (pointer_at i + 25) pointer.generation rest after_at (let f = fits.generation in omega arith))
 
 -- the pointers by their places are those of the list
 pub has_listed : (bytes : List ℕ) (pointers : List Pointer) → HasPointers bytes pointers → pointers_in bytes ≡ pointers
 has_listed bytes pointers h =
     let long = length_pointers_in bytes in
     same_lists (pointers_in bytes) pointers (long ∙ h.count) (λ k d within.
-      get_or-map-range_with_len (pointer_of bytes) 0 (count_of bytes) k k d (omega (arith, long)) (omega arith) ∙ h.each k d (omega (arith, long, h.count)))
+    get_or-map-range_with_len (pointer_of bytes) 0 (count_of bytes) k k d (omega (arith, long)) (omega arith) ∙ h.each k d (omega (arith, long, h.count)))
 
 pub has_itself : (bytes : List ℕ) (pointers : List Pointer) → HasPointers bytes pointers → HasPointers bytes (pointers_in bytes)
 has_itself bytes pointers h = rw (has_listed bytes pointers h) h
@@ -91,11 +91,11 @@ has_body bytes pointers h some = record {
   most = h.most;
   each = λ i within. slice_get-get_or pointers i (pointer_of bytes i) within ∙ ap (λ p. Some p) (sym (h.each i (pointer_of bytes i) within));
   order = λ i within.
-    let d = pointer_of bytes i in
-    let one : (get_or pointers i d).key ≡ key_at bytes (pointer_at i) = sym (ap (λ p. p.key) (h.each i d (omega arith))) in
-    let two : (get_or pointers (i + 1) d).key ≡ key_at bytes (pointer_at (i + 1)) = sym (ap (λ p. p.key) (h.each (i + 1) d within)) in
-    let next : suc i ≡ i + 1 = omega arith in
-    below_both _ _ _ _ one (ap (λ n. (get_or pointers n d).key) next ∙ two) (rise_at pointers i d h.rise (omega arith));
+      let d = pointer_of bytes i in
+      let one : (get_or pointers i d).key ≡ key_at bytes (pointer_at i) = sym (ap (λ p. p.key) (h.each i d (omega arith))) in
+      let two : (get_or pointers (i + 1) d).key ≡ key_at bytes (pointer_at (i + 1)) = sym (ap (λ p. p.key) (h.each (i + 1) d within)) in
+      let next : suc i ≡ i + 1 = omega arith in
+      below_both _ _ _ _ one (ap (λ n. (get_or pointers n d).key) next ∙ two) (rise_at pointers i d h.rise (omega arith));
 }
 
 pub has_passes : (bytes : List ℕ) (pointers : List Pointer) → HasPointers bytes pointers → 1 ≤ length pointers → node_body_of bytes ≡ Ok pointers

@@ -92,6 +92,10 @@ pub(crate) fn append_pointers(block: &mut Block, source: &Block, from: usize)
 {
     let count = count_of(block);
     let end = count_of(source);
-    put_bytes(block, 101 + 33 * count, &source[101 + 33 * from..101 + 33 * end]);
+    put_bytes(
+        block,
+        101 + 33 * count,
+        &source[101 + 33 * from..101 + 33 * end],
+    );
     put_u32(block, 96, (count + (end - from)) as u32);
 }

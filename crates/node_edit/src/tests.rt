@@ -31,7 +31,7 @@ fn put(block: &mut Block, key: Key) -> usize {
     if node.len() == 121 {
         return 4096;
     }
-    node.insert(place, key, Addr(4096 * key.offset), 6);
+    node.insert(place, key, Addr(key.offset), 6);
     node.len()
 }
 
@@ -43,7 +43,10 @@ fn edits_a_node(rt: HostRuntime) {
     assert!(rt; node.is_empty());
     node.insert(0, key_of(200), Addr(4096), 6);
     for i in 0..120 {
-        assert_eq!(rt; put(&mut block, key_of(if i < 60 { 60 - i } else { i + 1 })), i as usize + 2);
+        assert_eq!(rt;
+            put(&mut block, key_of(if i < 60 { 60 - i } else { i + 1 })),
+            i as usize + 2
+        );
     }
     assert_eq!(rt; put(&mut block, key_of(300)), 4096);
     assert!(rt; is_node_body(&block));
@@ -62,7 +65,7 @@ fn edits_a_node(rt: HostRuntime) {
         Ok(view) => {
             assert_eq!(rt; view.find(&key_of(77)), Ok(76));
             assert_eq!(rt; view.len(), 120);
-            assert_eq!(rt; view.child(76), (Addr(4096 * 77), 6));
+            assert_eq!(rt; view.child(76), (Addr(77), 6));
             assert_eq!(rt; view.child(0), (Addr(8192), 9));
         }
         Err(fault) => assert!(rt; false, "{fault}"),

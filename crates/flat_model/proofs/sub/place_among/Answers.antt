@@ -1,4 +1,4 @@
-use Rattle.std.proofs.Common.{sym, ap, ◌∙◌, arith, rules, add-one, drop}
+use Rattle.std.proofs.Common.{ap, rules, add-one, drop}
 use Rattle.flat_model.specs.View.{name_view, names_view}
 use Rattle.flat_model.proofs.Placed.{sought_start, sought_end, sought_less, sought_equal, sought_more, drop_view, drop_view_end}
 use Rattle.flat_model.proofs.sub.place_among.Goals as goal

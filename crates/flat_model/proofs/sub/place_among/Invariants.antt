@@ -1,4 +1,4 @@
-use Rattle.std.proofs.Common.{◌≤◌, ◌-◌, length}
+use Rattle.std.proofs.Common.{◌-◌, length}
 use Rattle.flat_model.specs.View.{name_view, names_view}
 use Rattle.flat_model.proofs.Placed.{SoughtAt}
 use Rattle.flat_model.proofs.sub.place_among.Given as goal

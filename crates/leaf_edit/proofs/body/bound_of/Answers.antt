@@ -1,5 +1,5 @@
-use Rattle.std.proofs.Common.{◌≡◌, ◌≤◌, ◌<◌, ◌+◌, ◌-◌, ℕ, List, length, get_or, refl, ap, arith, ◌∙◌, sym}
-use Rattle.blk_base.specs.Leaf.{Item, count_of, item_of, item_offset}
+use Rattle.std.proofs.Common.{◌≡◌, ◌≤◌, ◌<◌, ◌+◌, ◌-◌, ℕ, List, length, refl, ap, arith, ◌∙◌}
+use Rattle.blk_base.specs.Leaf.{Item, item_of, item_offset}
 use Rattle.leaf_view.specs.Listed.{items_in}
 use Rattle.leaf_edit.specs.Packed.{IsPacked, data_before}
 use Rattle.leaf_edit.proofs.Amounts.{data_before_none}

@@ -1,4 +1,4 @@
-use Rattle.std.proofs.Common.{◌≡◌, ◌≤◌, ◌+◌, ◌-◌, ℕ, List, arith, ◌∙◌}
+use Rattle.std.proofs.Common.{◌+◌, arith, ◌∙◌}
 use Rattle.leaf_edit.proofs.Parts.{copied}
 use Rattle.leaf_edit.proofs.body.close_gap.Goals as goal
 

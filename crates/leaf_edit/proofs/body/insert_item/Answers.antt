@@ -1,10 +1,10 @@
-use Rattle.std.proofs.Common.{◌≡◌, ◌≤◌, ◌<◌, ◌+◌, ◌-◌, ◌*◌, ◌++◌, ℕ, List, length, get_or, refl, ap, arith, ◌∙◌, sym, subst, drop}
-use Rattle.blk_base.specs.Bytes.{bytes_at, with_bytes, number_bytes}
+use Rattle.std.proofs.Common.{◌≡◌, ◌≤◌, ◌<◌, ◌+◌, ◌-◌, ◌*◌, ℕ, List, length, refl, ap, arith, ◌∙◌, subst, drop}
+use Rattle.blk_base.specs.Bytes.{with_bytes, number_bytes}
 use Rattle.blk_base.specs.Leaf.{Item, data_of, item_of, item_offset, count_of, header_at}
 use Rattle.leaf_view.specs.Listed.{items_in}
-use Rattle.leaf_edit.specs.Packed.{IsPacked, data_before, place_of, header_of}
+use Rattle.leaf_edit.specs.Packed.{IsPacked, data_before, place_of}
 use Rattle.leaf_edit.proofs.Amounts.{data_before_le, data_before_all}
-use Rattle.leaf_edit.proofs.Inserting.{Steps, inserted}
+use Rattle.leaf_edit.proofs.Inserting.{inserted}
 use Rattle.leaf_edit.proofs.Shifts.{header-with_bytes}
 use Rattle.leaf_edit.proofs.body.insert_item.Goals as goal
 
@@ -53,19 +53,19 @@ returns c =
     let counts : c.count_of-count.result ≡ length items = c.count_of-count.ensures ∙ c.requires.packed.count in
     let low = low_is c.args.block.now items c.count_of-count.result c.bound_of-low.result c.requires.packed c.count_of-count.ensures c.bound_of-low.ensures.value in
     inserted c.args.block.now c.make_room.new.block c.lower_headers.new.block c.write.new.block c.put_u32.new.bytes items c.args.at c.bound_of-low.result c.bound_of-bound.result c.args.key c.args.content.now
-      (record {
-        packed = c.requires.packed;
-        within = c.requires.within;
-        room = omega arith;
-        order = c.requires.order;
-        fits = c.write.ensures.fits.key;
-        low_is = low;
-        bound_is = c.bound_of-bound.ensures.value;
-        made = c.make_room.ensures;
-        moved = λ i upper within. c.lower_headers.ensures.moved i upper (omega arith);
-        front = c.lower_headers.ensures.front;
-        back = let P : ℕ → Type 0 = λ n. drop (header_at (n + 1)) c.lower_headers.new.block ≡ drop (header_at (n + 1)) c.make_room.new.block in subst P counts c.lower_headers.ensures.back;
-        long = c.lower_headers.array_long;
-        put = c.write.ensures.written;
-        counted = let P : ℕ → Type 0 = λ n. c.put_u32.new.bytes ≡ with_bytes c.write.new.block 96 (number_bytes 4 (n + 1)) in subst P counts c.put_u32.ensures;
-      })
+    (record {
+      packed = c.requires.packed;
+      within = c.requires.within;
+      room = omega arith;
+      order = c.requires.order;
+      fits = c.write.ensures.fits.key;
+      low_is = low;
+      bound_is = c.bound_of-bound.ensures.value;
+      made = c.make_room.ensures;
+      moved = λ i upper within. c.lower_headers.ensures.moved i upper (omega arith);
+      front = c.lower_headers.ensures.front;
+      back = let P : ℕ → Type 0 = λ n. drop (header_at (n + 1)) c.lower_headers.new.block ≡ drop (header_at (n + 1)) c.make_room.new.block in subst P counts c.lower_headers.ensures.back;
+      long = c.lower_headers.array_long;
+      put = c.write.ensures.written;
+      counted = let P : ℕ → Type 0 = λ n. c.put_u32.new.bytes ≡ with_bytes c.write.new.block 96 (number_bytes 4 (n + 1)) in subst P counts c.put_u32.ensures;
+    })

@@ -1,4 +1,4 @@
-use Rattle.std.proofs.Common.{◌≡◌, ◌≤◌, ◌+◌, ◌-◌, ◌++◌, ℕ, List, length, take, drop, refl, ap, arith, ◌∙◌, sym, length-drop}
+use Rattle.std.proofs.Common.{◌≡◌, ◌≤◌, ◌-◌, ◌++◌, ℕ, List, length, drop, refl, ap, arith, ◌∙◌, length-drop}
 use Rattle.std.proofs.lemmas.List.{length-take-le}
 use Rattle.blk_base.specs.Bytes.{bytes_at, with_bytes}
 use Rattle.leaf_edit.proofs.Parts.{with_bytes-with_bytes, copied}
@@ -16,4 +16,4 @@ moved b0 b1 b2 low bound size content first second is room order inside =
 pub returns : goal.returns
 returns c =
     moved c.args.block.now c.copy_within.new.self c.put_bytes.new.bytes c.args.low c.args.bound (length c.args.content.now) c.args.content.now
-      (c.copy_within.ensures.after ∙ copied c.args.block.now c.args.low c.args.bound (c.args.low - length c.args.content.now) (omega (arith, c.told-block))) c.put_bytes.ensures refl c.requires.room c.requires.order (omega (arith, c.told-block))
+    (c.copy_within.ensures.after ∙ copied c.args.block.now c.args.low c.args.bound (c.args.low - length c.args.content.now) (omega (arith, c.told-block))) c.put_bytes.ensures refl c.requires.room c.requires.order (omega (arith, c.told-block))

@@ -1,10 +1,10 @@
-use Rattle.std.proofs.Common.{◌≡◌, ◌≤◌, ◌<◌, ◌+◌, ◌-◌, ◌*◌, ◌^◌, ℕ, List, length, get_or, drop, refl, ap, arith, ◌∙◌, sym, subst}
-use Rattle.blk_base.specs.Bytes.{bytes_at, with_bytes, number_bytes}
+use Rattle.std.proofs.Common.{◌≡◌, ◌≤◌, ◌<◌, ◌+◌, ◌-◌, ◌^◌, ℕ, List, length, drop, refl, ap, arith, ◌∙◌, subst}
+use Rattle.blk_base.specs.Bytes.{with_bytes, number_bytes}
 use Rattle.blk_base.specs.Leaf.{Item, data_of, item_of, item_offset, count_of, header_at}
 use Rattle.leaf_view.specs.Listed.{items_in}
-use Rattle.leaf_edit.specs.Packed.{IsPacked, data_before, place_of, header_of}
+use Rattle.leaf_edit.specs.Packed.{IsPacked, data_before, place_of}
 use Rattle.leaf_edit.proofs.Amounts.{data_before_le, data_before_all, data_before_more}
-use Rattle.leaf_edit.proofs.Removing.{Steps, removed}
+use Rattle.leaf_edit.proofs.Removing.{removed}
 use Rattle.leaf_edit.proofs.Shifts.{header-with_bytes}
 use Rattle.leaf_edit.proofs.body.remove_item.Goals as goal
 
@@ -53,16 +53,16 @@ returns c =
     let low = low_is c.args.block.now items c.count_of-count.result c.bound_of-low.result c.requires.packed c.count_of-count.ensures c.bound_of-low.ensures.value in
     let fits = c.requires.packed.fits in
     removed c.args.block.now c.close_gap.new.block c.raise_headers.new.block c.put_u32.new.bytes items c.args.at c.bound_of-low.result c.bound_of-start.result (c.bound_of-end.result - c.bound_of-start.result) d
-      (record {
-        packed = c.requires.packed;
-        within = c.requires.within;
-        low_is = low;
-        start_is = c.bound_of-start.ensures.value;
-        by_is = omega (arith, c.bound_of-end.ensures.value, c.bound_of-start.ensures.value, data_before_more items c.args.at d c.requires.within, data_before_le items (c.args.at + 1));
-        made = c.close_gap.ensures;
-        moved = λ i upper within. c.raise_headers.ensures.moved i upper (omega arith);
-        front = c.raise_headers.ensures.front;
-        back = let P : ℕ → Type 0 = λ n. drop (header_at n) c.raise_headers.new.block ≡ drop (header_at n) c.close_gap.new.block in subst P counts c.raise_headers.ensures.back;
-        long = c.raise_headers.array_long;
-        counted = let P : ℕ → Type 0 = λ n. c.put_u32.new.bytes ≡ with_bytes c.raise_headers.new.block 96 (number_bytes 4 (n - 1)) in subst P counts c.put_u32.ensures;
-      })
+    (record {
+      packed = c.requires.packed;
+      within = c.requires.within;
+      low_is = low;
+      start_is = c.bound_of-start.ensures.value;
+      by_is = omega (arith, c.bound_of-end.ensures.value, c.bound_of-start.ensures.value, data_before_more items c.args.at d c.requires.within, data_before_le items (c.args.at + 1));
+      made = c.close_gap.ensures;
+      moved = λ i upper within. c.raise_headers.ensures.moved i upper (omega arith);
+      front = c.raise_headers.ensures.front;
+      back = let P : ℕ → Type 0 = λ n. drop (header_at n) c.raise_headers.new.block ≡ drop (header_at n) c.close_gap.new.block in subst P counts c.raise_headers.ensures.back;
+      long = c.raise_headers.array_long;
+      counted = let P : ℕ → Type 0 = λ n. c.put_u32.new.bytes ≡ with_bytes c.raise_headers.new.block 96 (number_bytes 4 (n - 1)) in subst P counts c.put_u32.ensures;
+    })

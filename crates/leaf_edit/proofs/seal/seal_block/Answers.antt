@@ -1,9 +1,9 @@
-use Rattle.std.proofs.Common.{arith, length, drop, ap, ◌∙◌, length-drop}
+use Rattle.std.proofs.Common.{arith, drop, ap, ◌∙◌, length-drop}
 use Rattle.std.proofs.lemmas.List.{take_all}
 use Rattle.blk_base.specs.Bytes.{with_bytes, number_bytes}
 use Rattle.blk_base.specs.Crc.{block_sum, crc32c_of}
-use Rattle.blk_base.specs.Leaf.{sealed, header_fields}
-use Rattle.blk_base.specs.Superblock.{with_fields, with_sum}
+use Rattle.blk_base.specs.Leaf.{sealed}
+use Rattle.blk_base.specs.Superblock.{with_sum}
 use Rattle.leaf_edit.proofs.Headers.{fields_hold, has_seal}
 use Rattle.leaf_edit.proofs.seal.seal_block.Goals as goal
 

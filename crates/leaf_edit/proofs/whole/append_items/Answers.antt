@@ -1,7 +1,6 @@
-use Rattle.std.proofs.Common.{◌≡◌, ◌+◌, ◌-◌, ℕ, ap, arith, ◌∙◌, subst, length, List, true, ◌≤◌}
+use Rattle.std.proofs.Common.{◌≡◌, ℕ, arith, subst, length, true}
 use Rattle.std.specs.Prelude.{insert}
 use Rattle.blk_base.specs.Keys.{keys_rise}
-use Rattle.blk_base.specs.Leaf.{Item}
 use Rattle.leaf_view.specs.Listed.{items_in}
 use Rattle.leaf_view.specs.Search.{keys_of}
 use Rattle.leaf_edit.specs.Packed.{IsPacked}
@@ -24,7 +23,7 @@ loop-i-preserved c =
     let P : ℕ → Type 0 = λ n. IsPacked c.insert_item.new.block (insert (items_in c.loop-i.block) n (c.key.result, c.data.result.now)) in
     let place : c.count_of-place.result ≡ length (items_in c.loop-i.block) = omega (arith, c.loop-i.invariant.packed.count, c.count_of-place.ensures) in
     appended_more c.args.block.now c.loop-i.block c.args.source.now c.args.from c.loop-i.i c.key.result c.data.result.now c.loop-i.invariant (omega (arith, c.len-i-end.ensures.value)) c.key.ensures c.data.ensures c.insert_item.new.block
-      (subst P place c.insert_item.ensures)
+    (subst P place c.insert_item.ensures)
 
 pub returns : goal.returns
 returns c = appended_all c.args.block.now c.loop-i.block c.args.source.now c.args.from c.loop-i.i c.loop-i.invariant (omega (arith, c.len-i-end.ensures.value))

@@ -1,6 +1,5 @@
-use Rattle.std.proofs.Common.{◌≡◌, ◌+◌, ◌<◌, ℕ, ap, arith, ◌∙◌, length, List}
+use Rattle.std.proofs.Common.{◌≡◌, ap, arith}
 use Rattle.blk_base.specs.Leaf.{item_offset, item_size}
-use Rattle.leaf_view.specs.Listed.{items_in}
 use Rattle.leaf_edit.proofs.Packing.{ok_body, packed_none, packed_more, packed_all}
 use Rattle.leaf_edit.proofs.whole.is_packed.Goals as goal
 

@@ -1,4 +1,4 @@
-use Rattle.std.proofs.Common.{◌≡◌, List, ap, sym, ◌∙◌, arith}
+use Rattle.std.proofs.Common.{◌≡◌, List, ap, ◌∙◌, arith}
 use Rattle.flat_model.specs.Names.{FlatName, is_name_set}
 use Rattle.flat_model.specs.View.{name_view, names_view}
 use Rattle.flat_model.proofs.NameSets.{is_name_set_add}

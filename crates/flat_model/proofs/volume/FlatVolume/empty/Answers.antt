@@ -1,6 +1,5 @@
-use Rattle.std.proofs.Common.{◌≡◌, ℕ, ◌∙◌, ap, sym, subst, refl, arith, rules, List, ◌++◌, ◌∷◌, []}
+use Rattle.std.proofs.Common.{◌≡◌, ℕ, ◌∙◌, ap, sym, subst, arith, ◌++◌, ◌∷◌, []}
 use Rattle.std.specs.FinMap.{from_entries}
-use Rattle.std.specs.List.{All}
 use Rattle.std.proofs.lemmas.List.Elements.{All-push}
 use Rattle.flat_model.specs.declared.volume.FlatSub.{FlatSub}
 use Rattle.flat_model.specs.View.{IsWellKept, AreWellKept}

@@ -1,4 +1,4 @@
-use Rattle.std.proofs.Common.{◌≡◌, ℕ}
+use Rattle.std.proofs.Common.{◌≡◌}
 use Rattle.flat_model.specs.View.{AreWellKept}
 use Rattle.flat_model.proofs.Bare.{seen, listed}
 use Rattle.flat_model.proofs.volume.FlatVolume.empty.Given as goal

@@ -1,4 +1,4 @@
-use Rattle.std.proofs.Common.{◌∙◌, ap, sym, arith, length}
+use Rattle.std.proofs.Common.{ap, arith, length}
 use Rattle.leaf_view.specs.Listed.{items_in}
 use Rattle.leaf_edit.proofs.Editing.{passes_itself, is_ok, viewed, split_room, split_order, split_back}
 use Rattle.leaf_edit.proofs.Passing.{packed_items, packed_itself}
