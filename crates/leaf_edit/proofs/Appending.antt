@@ -10,9 +10,9 @@ use Rattle.blk_base.specs.Leaf.{Item, data_of, room_of}
 use Rattle.leaf_view.specs.Listed.{items_in}
 use Rattle.leaf_view.specs.Search.{keys_of, contents_of}
 use Rattle.leaf_edit.specs.Packed.{IsPacked}
-use Rattle.leaf_edit.proofs.Amounts.{data_of-append}
-use Rattle.leaf_edit.proofs.Passing.{packed_items, packed_itself}
-use Rattle.leaf_edit.proofs.Rises.{rise_head, rise_tail, rise_cons}
+use Rattle.leaf_edit.specs.Amounts.{data_of-append}
+use Rattle.leaf_edit.specs.Passing.{packed_items, packed_itself}
+use Rattle.leaf_edit.specs.Rises.{rise_head, rise_tail, rise_cons}
 
 -- the items so far and those to come are all
 pub record Appended (first now : List ℕ) (source : List Item) (from i : ℕ) : Type 0 where

@@ -5,7 +5,7 @@ use Rattle.std.proofs.lemmas.List.{length-take-le}
 use Rattle.std.proofs.lemmas.Option.{get_or_from_slice_get}
 use Rattle.blk_base.specs.Leaf.{Item, IsLeafBody, data_of, item_of, item_offset, item_size, item_end}
 use Rattle.leaf_edit.specs.Packed.{data_before}
-use Rattle.leaf_edit.proofs.Amounts.{data_before_none, data_before_more, data_before_all}
+use Rattle.leaf_edit.specs.Amounts.{data_before_none, data_before_more, data_before_all}
 
 one : Bool → ℕ
 one true = 1

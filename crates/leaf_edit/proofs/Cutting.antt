@@ -5,11 +5,11 @@ use Rattle.blk_base.specs.Bytes.{with_bytes, number_bytes}
 use Rattle.blk_base.specs.Leaf.{Item, data_of, count_of}
 use Rattle.leaf_view.specs.Search.{keys_of}
 use Rattle.leaf_edit.specs.Packed.{IsPacked, data_before, place_of}
-use Rattle.leaf_edit.proofs.Amounts.{data_before_le, data_before-is}
-use Rattle.leaf_edit.proofs.Fronts.{number_reads_back}
-use Rattle.leaf_edit.proofs.Parts.{part_in_back, drop-with_bytes, drop-with_bytes_here, length-with_bytes}
-use Rattle.leaf_edit.proofs.Rises.{rise-take}
-use Rattle.leaf_edit.proofs.Shifts.{header_in_back}
+use Rattle.leaf_edit.specs.Amounts.{data_before_le, data_before-is}
+use Rattle.leaf_edit.specs.Fronts.{number_reads_back}
+use Rattle.leaf_edit.specs.Parts.{part_in_back, drop-with_bytes, drop-with_bytes_here, length-with_bytes}
+use Rattle.leaf_edit.specs.Rises.{rise-take}
+use Rattle.leaf_edit.specs.Shifts.{header_in_back}
 
 count_written : (b0 b1 : List ℕ) (n : ℕ) → length b0 ≡ 4096 → b1 ≡ with_bytes b0 96 (number_bytes 4 n) → n < 256 ^ 4 → count_of b1 ≡ n
 count_written b0 b1 n long made small =

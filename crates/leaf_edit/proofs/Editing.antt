@@ -13,11 +13,11 @@ use Rattle.leaf_view.specs.Listed.{items_in}
 use Rattle.leaf_view.specs.Search.{keys_of}
 use Rattle.leaf_view.proofs.LeafLaws.{leaf_body_listed}
 use Rattle.leaf_edit.specs.Packed.{IsPacked, place_of}
-use Rattle.leaf_edit.proofs.Amounts.{data_of-append}
-use Rattle.leaf_edit.proofs.Parts.{part_in_back}
-use Rattle.leaf_edit.proofs.Passing.{packed_passes, packed_items, packed_itself}
-use Rattle.leaf_edit.proofs.Rises.{rise-drop}
-use Rattle.leaf_edit.proofs.Shifts.{header_in_back}
+use Rattle.leaf_edit.specs.Amounts.{data_of-append}
+use Rattle.leaf_edit.specs.Parts.{part_in_back}
+use Rattle.leaf_edit.specs.Passing.{packed_passes, packed_items, packed_itself}
+use Rattle.leaf_edit.specs.Rises.{rise-drop}
+use Rattle.leaf_edit.specs.Shifts.{header_in_back}
 
 pub passes_itself : (bytes : List ℕ) (items : List Item) → IsPacked bytes items → leaf_body_of bytes ≡ Ok (items_in bytes)
 passes_itself bytes items h = packed_passes bytes (items_in bytes) (packed_itself bytes items h)

@@ -7,8 +7,8 @@ use Rattle.blk_base.specs.Crc.{block_sum, crc32c_of}
 use Rattle.blk_base.specs.Leaf.{header_fields, count_of}
 use Rattle.blk_base.specs.Superblock.{with_fields}
 use Rattle.leaf_edit.proofs.Sealing.{HasFields, IsSealed}
-use Rattle.leaf_edit.proofs.Fronts.{behind, number_reads_back}
-use Rattle.leaf_edit.proofs.Parts.{part_in_front, part_in_back, back_in_back, field_part, take-with_bytes, drop-with_bytes, drop-with_bytes_here, length-with_bytes, with_bytes-with_bytes, three_writes}
+use Rattle.leaf_edit.specs.Fronts.{behind, number_reads_back}
+use Rattle.leaf_edit.specs.Parts.{part_in_front, part_in_back, back_in_back, field_part, take-with_bytes, drop-with_bytes, drop-with_bytes_here, length-with_bytes, with_bytes-with_bytes, three_writes}
 
 -- the writes, one right behind the other up to byte 96, and the level
 pub record Writes (b0 b1 b2 b3 b4 b5 b6 b7 b8 z i a f u g o l : List ℕ) : Type 0 where

@@ -11,10 +11,10 @@ use Rattle.blk_base.specs.Leaf.{Item, data_of, count_of, header_at}
 use Rattle.leaf_view.specs.Search.{keys_of}
 use Rattle.leaf_edit.specs.declared.header.Header.{Header}
 use Rattle.leaf_edit.specs.Packed.{IsPacked, HeaderFits, header_of, header_bytes, data_before, place_of, packed_header, lowered}
-use Rattle.leaf_edit.proofs.Amounts.{data_before_more, data_before_le, data_before_rises, data_before-insert_below, data_before-insert_above, data_of-insert}
-use Rattle.leaf_edit.proofs.Fronts.{header_reads_back, length-header_bytes, number_reads_back, behind}
-use Rattle.leaf_edit.proofs.Parts.{part_within, part_in_back, back_in_back, take-with_bytes, drop-with_bytes, drop-with_bytes_here, length-with_bytes}
-use Rattle.leaf_edit.proofs.Shifts.{header_in_front, header_in_back, header-with_header_below, header-with_header_above}
+use Rattle.leaf_edit.specs.Amounts.{data_before_more, data_before_le, data_before_rises, data_before-insert_below, data_before-insert_above, data_of-insert}
+use Rattle.leaf_edit.specs.Fronts.{header_reads_back, length-header_bytes, number_reads_back, behind}
+use Rattle.leaf_edit.specs.Parts.{part_within, part_in_back, back_in_back, take-with_bytes, drop-with_bytes, drop-with_bytes_here, length-with_bytes}
+use Rattle.leaf_edit.specs.Shifts.{header_in_front, header_in_back, header-with_header_below, header-with_header_above}
 
 -- the steps: the data, the headers behind the place, the new header, the count
 pub record Steps (b0 b1 b2 b3 b4 : List ℕ) (items : List Item) (at low bound : ℕ) (key : Key) (content : List ℕ) : Type 0 where

@@ -11,10 +11,10 @@ use Rattle.leaf_view.specs.Listed.{items_in}
 use Rattle.leaf_view.specs.Search.{keys_of}
 use Rattle.leaf_view.proofs.LeafLaws.{body_passes, leaf_body_means, leaf_body_listed}
 use Rattle.leaf_edit.specs.Packed.{IsPacked, header_of, data_before, place_of, packed_header}
-use Rattle.leaf_edit.proofs.Amounts.{data_before_more, data_before_none}
+use Rattle.leaf_edit.specs.Amounts.{data_before_more, data_before_none}
 use Rattle.leaf_edit.proofs.Crowd.{body_fits, item_at}
-use Rattle.leaf_edit.proofs.Fronts.{same_header}
-use Rattle.leaf_edit.proofs.Passing.{packed_items}
+use Rattle.leaf_edit.specs.Fronts.{same_header}
+use Rattle.leaf_edit.specs.Passing.{packed_items}
 
 -- the items so far stand where they stand in a packed leaf
 pub record PackedSoFar (bytes : List ℕ) (items : List Item) (i bound : ℕ) : Type 0 where

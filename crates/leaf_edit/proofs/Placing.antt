@@ -6,7 +6,7 @@ use Rattle.blk_base.specs.declared.key.Key.{Key}
 use Rattle.blk_base.specs.Keys.{KeyBelow, keys_rise}
 use Rattle.blk_base.specs.Leaf.{Item, Pointer}
 use Rattle.leaf_view.specs.Search.{keys_of, pointer_keys, IsPlace}
-use Rattle.leaf_edit.proofs.Rises.{rise_head, rise_tail, rise_cons}
+use Rattle.leaf_edit.specs.Rises.{rise_head, rise_tail, rise_cons}
 
 pub rise-insert : (keys : List Key) (at : ℕ) (key : Key) → keys_rise keys ≡ true → IsPlace keys key at → keys_rise (insert keys at key) ≡ true
 rise-insert [] zero key h place = refl

@@ -7,11 +7,11 @@ use Rattle.std.proofs.lemmas.List.Edits.{length-remove, get_or-remove_below, get
 use Rattle.blk_base.specs.Bytes.{bytes_at, with_bytes, number_bytes}
 use Rattle.blk_base.specs.Leaf.{Item, data_of, count_of, header_at}
 use Rattle.leaf_edit.specs.Packed.{IsPacked, header_of, data_before, place_of, packed_header, raised}
-use Rattle.leaf_edit.proofs.Amounts.{data_before_more, data_before_le, data_before_rises, data_before-remove_below, data_before-remove_above, data_of-remove}
-use Rattle.leaf_edit.proofs.Fronts.{number_reads_back}
-use Rattle.leaf_edit.proofs.Parts.{part_within, part_in_back, back_in_back, drop-with_bytes, drop-with_bytes_here, length-with_bytes}
-use Rattle.leaf_edit.proofs.Rises.{rise-remove}
-use Rattle.leaf_edit.proofs.Shifts.{header_in_front, header_in_back, header-with_bytes}
+use Rattle.leaf_edit.specs.Amounts.{data_before_more, data_before_le, data_before_rises, data_before-remove_below, data_before-remove_above, data_of-remove}
+use Rattle.leaf_edit.specs.Fronts.{number_reads_back}
+use Rattle.leaf_edit.specs.Parts.{part_within, part_in_back, back_in_back, drop-with_bytes, drop-with_bytes_here, length-with_bytes}
+use Rattle.leaf_edit.specs.Rises.{rise-remove}
+use Rattle.leaf_edit.specs.Shifts.{header_in_front, header_in_back, header-with_bytes}
 
 -- the steps: the data, the headers behind the place, the count
 pub record Steps (b0 b1 b2 b3 : List ℕ) (items : List Item) (at low start by : ℕ) (d : Item) : Type 0 where

@@ -1,3 +1,12 @@
+pub mod Amounts
 pub mod Editor
+pub mod Fronts
 pub mod Images
+pub mod Lending
 pub mod Packed
+pub mod Parts
+pub mod Passing
+pub mod Rewriting
+pub mod Rises
+pub mod Shifts
+pub mod Written

@@ -5,6 +5,7 @@ ghost use Rattle.blk_base.specs.Leaf.{count_of, data_of, room_of};
 ghost use Rattle.leaf_view.specs.Listed.{items_in};
 ghost use Rattle.leaf_view.specs.Search.{keys_of};
 ghost use Rattle.leaf_edit.specs.Packed.{IsPacked, data_before};
+ghost use Rattle.leaf_edit.specs.Written.{data_at, with_data};
 
 use crate::header::Header;
 use crate::shift::{lower_headers, raise_headers};
@@ -86,4 +87,15 @@ pub(crate) fn remove_item(block: &mut Block, at: usize)
     close_gap(block, 101 + low, 101 + start, end - start);
     raise_headers(block, at, count, (end - start) as u32);
     put_u32(block, 96, count as u32 - 1);
+}
+
+/// Writes bytes over a part of the data of the item at a place.
+pub(crate) fn put_data(block: &mut Block, at: usize, from: usize, content: &[u8])
+    requires packed { IsPacked block.old (items_in block.old) }
+    requires within { at < length (items_in block.old) }
+    requires inside { from + length content.now ≤ length (data_at (items_in block.old) at) }
+    ensures { IsPacked block.new (with_data (items_in block.old) at (with_bytes (data_at (items_in block.old) at) from content.now)) }
+{
+    let start = bound_of(block, at + 1);
+    put_bytes(block, 101 + start + from, content);
 }

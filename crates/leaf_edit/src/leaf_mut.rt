@@ -1,11 +1,14 @@
 ghost use Rattle.std.specs.Prelude.{◌≡◌, ◌≤◌, ◌<◌, ◌+◌, ◌*◌, ◌++◌, [], length, take, drop, insert, remove, true, Ok, IsOk, IsTrue, ◌↔◌};
+ghost use Rattle.blk_base.specs.Bytes.{with_bytes};
 ghost use Rattle.blk_base.specs.Keys.{keys_rise};
 ghost use Rattle.blk_base.specs.Leaf.{leaf_body_of, leaf_of, data_of, room_of, sealed};
 ghost use Rattle.leaf_view.specs.Listed.{items_in};
 ghost use Rattle.leaf_view.specs.Search.{keys_of};
 ghost use Rattle.leaf_edit.specs.Packed.{IsPacked};
+ghost use Rattle.leaf_edit.specs.Written.{data_at, with_data};
 
-use crate::body::{count_of, insert_item, remove_item};
+use crate::body::{bound_of, count_of, insert_item, put_data, remove_item};
+use crate::lend::part_mut;
 use crate::seal::seal_block;
 use crate::whole::{append_items, clear, pack, room, truncate};
 use blk_base::{Block, Key, Want};
@@ -22,7 +25,9 @@ pub struct LeafMut<'a> {
 }
 
 impl<'a> LeafMut<'a> {
+    ghost use Rattle.std.specs.Borrow.{sem};
     ghost use Rattle.leaf_edit.specs.Editor.{items_of, bytes_of, lender_of};
+    ghost use Rattle.leaf_edit.specs.Lending.{LendsData};
 
     /// An editor of the leaf in a block's body, whatever the block's header says. Data that have gaps or another order
     /// are packed once.
@@ -88,6 +93,28 @@ impl<'a> LeafMut<'a> {
         ensures lender { lender_of self.new ≡ lender_of self.old }
     {
         remove_item(self.block, at);
+    }
+
+    /// Writes bytes over a part of the data of the item at a place, from a byte of the data on.
+    pub fn put_data(&mut self, at: usize, from: usize, bytes: &[u8])
+        requires within { at < length (items_of self.old) }
+        requires inside { from + length bytes.now ≤ length (data_at (items_of self.old) at) }
+        ensures items { items_of self.new ≡ with_data (items_of self.old) at (with_bytes (data_at (items_of self.old) at) from bytes.now) }
+        ensures body { leaf_body_of (bytes_of self.new) ≡ Ok (items_of self.new) }
+        ensures lender { lender_of self.new ≡ lender_of self.old }
+    {
+        put_data(self.block, at, from, bytes);
+    }
+
+    /// The data of the item at a place, to be written in place.
+    pub fn data_mut(&mut self, at: usize) -> &mut [u8]
+        requires { at < length (items_of self.old) }
+        ensures* writes_back { sem 𝓛 (LendsData self.entry at result) }
+        ensures value { result.now ≡ data_at (items_of self.old) at }
+    {
+        let start = bound_of(self.block, at + 1);
+        let size = bound_of(self.block, at) - start;
+        part_mut(self.block, 101 + start, size)
     }
 
     /// Moves the items from a place on to an empty leaf.

@@ -9,12 +9,13 @@ mod body;
 mod header;
 mod laws;
 mod leaf_mut;
+mod lend;
 mod seal;
 mod shift;
 mod whole;
 
 pub use header::put_key;
-pub use laws::{leaves_fit, packed_leaves_pass, places_keep_order};
+pub use laws::{leaves_fit, loans_come_back, packed_leaves_pass, places_keep_order};
 pub use leaf_mut::LeafMut;
 pub use seal::seal_block;
 

@@ -137,3 +137,39 @@ fn splits_joins_and_seals(rt: HostRuntime) {
         Err(fault) => assert!(rt; false, "{fault}"),
     }
 }
+
+/// Bytes are written over a part of an item's data, and all else stays.
+#[test]
+fn writes_over_data(rt: HostRuntime) {
+    let mut block = [0; 4096];
+    let mut leaf = LeafMut::empty(&mut block);
+    leaf.insert(0, key_of(0), &[1, 2, 3, 4]);
+    leaf.put_data(0, 1, &[8, 9]);
+    assert_eq!(rt; leaf.room(), 3995 - 29);
+    assert!(rt; is_leaf_body(&block));
+    let leaf = LeafView::of_body(&block);
+    assert_eq!(rt; leaf.len(), 1);
+    if !leaf.is_empty() {
+        assert_eq!(rt; leaf.key(0), key_of(0));
+        assert_eq!(rt; leaf.data(0), [1, 8, 9, 4].as_slice());
+    }
+}
+
+/// A byte is written through a loan of an item's data.
+#[test]
+fn lends_data(rt: HostRuntime) {
+    let mut block = [0; 4096];
+    let mut leaf = LeafMut::empty(&mut block);
+    leaf.insert(0, key_of(0), &[1, 2, 3]);
+    let loan = leaf.data_mut(0);
+    assert_eq!(rt; loan.len(), 3);
+    if loan.len() == 3 {
+        loan[1] = 9;
+    }
+    assert!(rt; is_leaf_body(&block));
+    let leaf = LeafView::of_body(&block);
+    assert_eq!(rt; leaf.len(), 1);
+    if !leaf.is_empty() {
+        assert_eq!(rt; leaf.data(0), [1, 9, 3].as_slice());
+    }
+}

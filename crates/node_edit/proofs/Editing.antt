@@ -5,7 +5,7 @@ use Rattle.blk_base.specs.Keys.{keys_rise}
 use Rattle.blk_base.specs.Leaf.{Pointer, node_body_of, count_of}
 use Rattle.leaf_view.specs.Listed.{pointers_in}
 use Rattle.leaf_view.specs.Search.{pointer_keys}
-use Rattle.leaf_edit.proofs.Rises.{rise-drop}
+use Rattle.leaf_edit.specs.Rises.{rise-drop}
 use Rattle.node_edit.specs.Pointers.{HasPointers}
 use Rattle.node_edit.proofs.Parts.{has_listed, has_itself, has_passes, pointer_in_back}
 

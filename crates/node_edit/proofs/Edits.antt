@@ -10,9 +10,9 @@ use Rattle.blk_base.specs.Keys.{key_at, keys_rise}
 use Rattle.blk_base.specs.Leaf.{Pointer, count_of, pointer_at, pointer_of}
 use Rattle.leaf_view.specs.KeyOrder.{KeyBelow_trans}
 use Rattle.leaf_view.specs.Search.{pointer_keys}
-use Rattle.leaf_edit.proofs.Fronts.{number_reads_back, key_part}
-use Rattle.leaf_edit.proofs.Parts.{part_within, part_in_front, field_part, take-with_bytes, drop-with_bytes, drop-with_bytes_here, part-with_bytes, length-with_bytes}
-use Rattle.leaf_edit.proofs.Rises.{rise_head, rise_tail, rise_cons, rise-take}
+use Rattle.leaf_edit.specs.Fronts.{number_reads_back, key_part}
+use Rattle.leaf_edit.specs.Parts.{part_within, part_in_front, field_part, take-with_bytes, drop-with_bytes, drop-with_bytes_here, part-with_bytes, length-with_bytes}
+use Rattle.leaf_edit.specs.Rises.{rise_head, rise_tail, rise_cons, rise-take}
 use Rattle.node_edit.specs.Pointers.{HasPointers, pointer_image, with_child}
 use Rattle.node_edit.proofs.Parts.{PointerFits, pointer_part, pointer_in_front, pointer_in_back, pointer_reads_back, length-pointer_image, same_pointer}
 

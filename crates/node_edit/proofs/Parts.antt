@@ -13,9 +13,9 @@ use Rattle.leaf_view.specs.Listed.{pointers_in}
 use Rattle.leaf_view.specs.Search.{pointer_keys}
 use Rattle.leaf_view.proofs.NodeLaws.{node_body_from, node_body_means, node_body_listed, length_pointers_in, body_passes}
 use Rattle.leaf_edit.specs.Images.{key_image}
-use Rattle.leaf_edit.proofs.Fronts.{key_part, key_reads_back, number_reads_back, behind, length-key_image}
-use Rattle.leaf_edit.proofs.Parts.{part_within, part_in_front, part_in_back, field_part, drop-with_bytes_here}
-use Rattle.leaf_edit.proofs.Rises.{rise_head, rise_tail}
+use Rattle.leaf_edit.specs.Fronts.{key_part, key_reads_back, number_reads_back, behind, length-key_image}
+use Rattle.leaf_edit.specs.Parts.{part_within, part_in_front, part_in_back, field_part, drop-with_bytes_here}
+use Rattle.leaf_edit.specs.Rises.{rise_head, rise_tail}
 use Rattle.node_edit.specs.Pointers.{HasPointers, pointer_image}
 
 make : Key → ℕ → ℕ → Pointer

@@ -1,11 +1,11 @@
 -- Two blocks, a flush and the superblock: what a crash may leave at every moment.
-use Rattle.std.proofs.Common.{◌≡◌, ◌≢◌, ◌≤◌, ◌<◌, ◌+◌, ◌⊎◌, ◌++◌, ◌∷◌, [], ℕ, zero, suc, List, length, Option, Some, None, Bool, true, false, All, Contains, slice_get, slice_set, slice_index_or, length-set, refl, sym, ◌∙◌, ap, subst, inl, inr, arith}
+use Rattle.std.proofs.Common.{◌≡◌, ◌≢◌, ◌<◌, ◌⊎◌, ◌∷◌, [], ℕ, zero, suc, List, length, Option, Some, None, Bool, true, false, Contains, slice_get, slice_set, slice_index_or, length-set, refl, sym, ◌∙◌, ap, subst, inl, inr, arith}
 use Rattle.std.proofs.lemmas.List.Elements.{All-set}
 use Rattle.blk_base.specs.Bytes.{zeros}
-use Rattle.disk_model.specs.Disk.{IsBlock, Image, IsImage, Call, Held, Told, Leaves, GoesOn, EveryMoment, AtEveryMoment, IfBoth, IfTold, TellsMore, Continues, Changes, after_call, during_call, after_calls, held_now, image_now, written, super_written}
-use Rattle.disk_model.specs.Laws.{held_now-goes_on, GoesOn-joins, TellsMore-joins, EveryMoment-call, EveryMoment-same, EveryMoment-joins, EveryMoment-weaker, slice_get-set_other, slice_get-set_same, Contains-cons_cases, Contains-single, Contains-none}
+use Rattle.disk_model.specs.Disk.{IsBlock, Image, IsImage, Call, Held, Told, Leaves, GoesOn, EveryMoment, IfBoth, IfTold, TellsMore, Continues, after_call, during_call, after_calls, held_now, image_now, written, super_written}
+use Rattle.disk_model.specs.Laws.{held_now-goes_on, TellsMore-joins, EveryMoment-call, EveryMoment-same, EveryMoment-joins, EveryMoment-weaker, slice_get-set_other, slice_get-set_same, Contains-cons_cases, Contains-single, Contains-none}
 use Rattle.volume_image.specs.Stands.{super_block}
-use Rattle.script_runner.specs.Mkfs.{FindsWhatIsRead, CrashLeaves, HasBlocks, IsOldOrWritten}
+use Rattle.script_runner.specs.Mkfs.{FindsWhatIsRead, CrashLeaves, IsOldOrWritten}
 
 -- reading past a list's end isn't meant, so what stands there then doesn't count
 index_within : {A : Type 0} (xs : List A) (i : ℕ) (d e : A) → i < length xs → slice_index_or xs i d ≡ slice_index_or xs i e

@@ -1,5 +1,5 @@
 -- The items of a root directory without names, field by field.
-use Rattle.std.proofs.Common.{◌≡◌, ◌∷◌, [], List, ℕ, refl}
+use Rattle.std.proofs.Common.{◌≡◌, ◌∷◌, [], refl}
 use Rattle.blk_base.specs.Bytes.{with_bytes, with_field, zeros}
 use Rattle.blk_base.specs.Entries.{ref_bytes}
 use Rattle.blk_base.specs.Items.{inode_bytes}

@@ -1,5 +1,5 @@
 -- What a sink has taken, piece behind piece.
-use Rattle.std.proofs.Common.{◌≡◌, ◌≤◌, ◌+◌, ◌++◌, ℕ, List, length, take, drop, Option, Some, None, Result, Ok, Err, OnErr, length-append, take_all, append_assoc, sym, ◌∙◌, ap, subst, arith}
+use Rattle.std.proofs.Common.{◌+◌, ◌++◌, ℕ, List, length, take, drop, Option, Some, None, Result, Ok, Err, OnErr, length-append, take_all, append_assoc, sym, ◌∙◌, ap, subst, arith}
 use Rattle.std.proofs.lemmas.List.{take-append-drop, take-append-le}
 use Rattle.std.proofs.Math.Seq.{take-append-add, take-add}
 use Rattle.io_edge.specs.Edge.{Takes, TakesFront}

@@ -1,9 +1,9 @@
 -- The text of a uuid is what its reader reads.
-use Rattle.std.proofs.Common.{◌≡◌, ◌≢◌, ◌≤◌, ◌<◌, ◌+◌, ◌-◌, ◌⊎◌, ℕ, zero, suc, List, [], ◌∷◌, length, Bool, true, false, ◌&&◌, ◌||◌, ◌==◌, nat_le, nat_lt, nat_eq, Option, Some, None, slice_index, slice_index_or, All, refl, sym, ◌∙◌, ap, subst, inl, inr, arith, if◌then◌else◌}
-use Rattle.std.specs.List.{AllPass, list_all}
+use Rattle.std.proofs.Common.{◌≡◌, ◌≢◌, ◌<◌, ℕ, zero, suc, List, [], ◌∷◌, length, Bool, true, false, ◌&&◌, ◌==◌, Option, Some, None, slice_index, slice_index_or, All, refl, sym, ◌∙◌, ap, arith, if◌then◌else◌}
+use Rattle.std.specs.List.{list_all}
 use Rattle.std.proofs.lemmas.List.Sums.{AllPass-from_list_all, list_all-from_AllPass}
 use Rattle.std.proofs.lemmas.Bool.Decides.{nat_tests}
-use Rattle.uuid.specs.Text.{parsed, parsed_hyphenated, parsed_simple, has_hyphens, digits_of, hyphen_place, digit_place, is_hyphen_place, is_hex_digit, byte_of_digits, by_index}
+use Rattle.uuid.specs.Text.{parsed, parsed_hyphenated, parsed_simple, has_hyphens, digits_of, hyphen_place, digit_place, is_hex_digit, byte_of_digits, by_index}
 use Rattle.uuid.proofs.TextLemmas.{by_index_at, by_index_length, hyphens_pass}
 use Rattle.script_runner.specs.Words.{IsHexDigit, IsUuidText}
 

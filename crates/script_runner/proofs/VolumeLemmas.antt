@@ -1,18 +1,17 @@
 -- The three blocks of the empty volume are all that an image needs to stand for it.
-use Rattle.std.proofs.Common.{◌≡◌, ◌≤◌, ◌<◌, ◌^◌, ◌⊎◌, [], ◌∷◌, ℕ, zero, suc, List, length, Option, Some, None, Result, Ok, slice_get, slice_set, slice_index_or, length-set, refl, sym, ◌∙◌, ap, subst, inl, inr, arith, lit<}
-use Rattle.blk_base.specs.Address.{IsAllowed}
-use Rattle.blk_base.specs.Bytes.{IsBytes, zeros}
+use Rattle.std.proofs.Common.{◌≡◌, ◌≤◌, ◌<◌, [], ◌∷◌, ℕ, zero, suc, List, length, Option, Some, None, Ok, slice_get, slice_set, slice_index_or, length-set, refl, sym, ◌∙◌, ap, subst, inl, inr, arith, lit<}
+use Rattle.blk_base.specs.Bytes.{zeros}
 use Rattle.blk_base.specs.Leaf.{leaf_of}
 use Rattle.blk_base.specs.Superblock.{SuperValue, SuperFits, IsSuper, super_bytes}
 use Rattle.format_laws.specs.Tables.{IsSuper-super_bytes}
 use Rattle.flat_model.specs.Volume.{bare_volume}
-use Rattle.disk_model.specs.Disk.{Image, Told, EveryMoment, IfBoth, IfTold, image_now}
+use Rattle.disk_model.specs.Disk.{Image, Told, IfBoth, IfTold, image_now}
 use Rattle.disk_model.specs.Laws.{EveryMoment-same, EveryMoment-weaker, slice_get-set_other, slice_get-set_same}
 use Rattle.volume_image.specs.Bare.{bare_root, bare_root_items, bare_items}
-use Rattle.volume_image.specs.Stands.{Stands, StandsBy, root_want, sub_want, super_block}
+use Rattle.volume_image.specs.Stands.{Stands, root_want, sub_want, super_block}
 use Rattle.volume_image.specs.Tree.{block_of}
 use Rattle.volume_image.proofs.BareVolume.{bare_volume_read}
-use Rattle.script_runner.specs.Mkfs.{AreVolume, CrashLeaves, FindsWhatIsRead, HasBlocks, IsOldOrBare, IsOldOrWritten, made_super}
+use Rattle.script_runner.specs.Mkfs.{AreVolume, CrashLeaves, HasBlocks, IsOldOrBare, IsOldOrWritten, made_super}
 
 index_from_get : {A : Type 0} (xs : List A) (i : ℕ) (x d : A) → slice_get xs i ≡ Some x → slice_index_or xs i d ≡ x
 index_from_get [] i x d is = cc

@@ -4,7 +4,7 @@ use Rattle.blk_base.specs.Bytes.{IsBytes}
 use Rattle.blk_base.specs.Leaf.{leaf_of}
 use Rattle.blk_base.specs.Superblock.{SuperValue, super_bytes}
 use Rattle.flat_model.specs.Volume.{bare_volume}
-use Rattle.disk_model.specs.Disk.{Image, IsImage, Told, Leaves, IfTold, AtEveryMoment, held_now, image_now}
+use Rattle.disk_model.specs.Disk.{Image, Told, Leaves, IfTold, AtEveryMoment, held_now, image_now}
 use Rattle.uuid.specs.Text.{parsed}
 use Rattle.script_runner.specs.Words.{IsNumber}
 use Rattle.volume_image.specs.Bare.{bare_root, bare_root_items, bare_items}

@@ -2,7 +2,7 @@ use Rattle.std.proofs.Common.{◌≡◌, ◌≤◌, ◌<◌, ◌+◌, ◌-◌, �
 use Rattle.blk_base.specs.Leaf.{Item, item_of, item_offset}
 use Rattle.leaf_view.specs.Listed.{items_in}
 use Rattle.leaf_edit.specs.Packed.{IsPacked, data_before}
-use Rattle.leaf_edit.proofs.Amounts.{data_before_none}
+use Rattle.leaf_edit.specs.Amounts.{data_before_none}
 use Rattle.leaf_edit.proofs.body.bound_of.Goals as goal
 
 -- the offset of the item before a place

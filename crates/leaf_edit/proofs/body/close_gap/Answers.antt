@@ -1,5 +1,5 @@
 use Rattle.std.proofs.Common.{◌+◌, arith, ◌∙◌}
-use Rattle.leaf_edit.proofs.Parts.{copied}
+use Rattle.leaf_edit.specs.Parts.{copied}
 use Rattle.leaf_edit.proofs.body.close_gap.Goals as goal
 
 pub returns : goal.returns

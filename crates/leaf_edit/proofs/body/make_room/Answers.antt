@@ -1,7 +1,7 @@
 use Rattle.std.proofs.Common.{◌≡◌, ◌≤◌, ◌-◌, ◌++◌, ℕ, List, length, drop, refl, ap, arith, ◌∙◌, length-drop}
 use Rattle.std.proofs.lemmas.List.{length-take-le}
 use Rattle.blk_base.specs.Bytes.{bytes_at, with_bytes}
-use Rattle.leaf_edit.proofs.Parts.{with_bytes-with_bytes, copied}
+use Rattle.leaf_edit.specs.Parts.{with_bytes-with_bytes, copied}
 use Rattle.leaf_edit.proofs.body.make_room.Goals as goal
 
 -- bytes that move down, and others behind them

@@ -3,9 +3,9 @@ use Rattle.blk_base.specs.Bytes.{with_bytes, number_bytes}
 use Rattle.blk_base.specs.Leaf.{Item, data_of, item_of, item_offset, count_of, header_at}
 use Rattle.leaf_view.specs.Listed.{items_in}
 use Rattle.leaf_edit.specs.Packed.{IsPacked, data_before, place_of}
-use Rattle.leaf_edit.proofs.Amounts.{data_before_le, data_before_all, data_before_more}
+use Rattle.leaf_edit.specs.Amounts.{data_before_le, data_before_all, data_before_more}
 use Rattle.leaf_edit.proofs.Removing.{removed}
-use Rattle.leaf_edit.proofs.Shifts.{header-with_bytes}
+use Rattle.leaf_edit.specs.Shifts.{header-with_bytes}
 use Rattle.leaf_edit.proofs.body.remove_item.Goals as goal
 
 -- the lowest data

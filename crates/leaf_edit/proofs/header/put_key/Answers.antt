@@ -1,7 +1,7 @@
 use Rattle.std.proofs.Common.{◌+◌, [], ◌∷◌, refl, arith}
 use Rattle.blk_base.specs.Bytes.{number_bytes}
 use Rattle.leaf_edit.specs.Images.{key_image}
-use Rattle.leaf_edit.proofs.Parts.{three_writes}
+use Rattle.leaf_edit.specs.Parts.{three_writes}
 use Rattle.leaf_edit.proofs.header.put_key.Goals as goal
 
 pub returns-clause-written : goal.returns-clause-written

@@ -1,4 +1,4 @@
-use Rattle.leaf_edit.proofs.Passing.{packed_passes}
+use Rattle.leaf_edit.specs.Passing.{packed_passes}
 use Rattle.leaf_edit.proofs.laws.packed_leaves_pass.Goals as goal
 
 pub returns : goal.returns

@@ -2,7 +2,7 @@ use Rattle.std.proofs.Common.{◌∙◌}
 use Rattle.blk_base.specs.Leaf.{leaf_body_of}
 use Rattle.leaf_view.specs.Listed.{items_in}
 use Rattle.leaf_edit.proofs.Editing.{header_passes, sealed_packed}
-use Rattle.leaf_edit.proofs.Passing.{packed_passes}
+use Rattle.leaf_edit.specs.Passing.{packed_passes}
 use Rattle.leaf_edit.proofs.leaf_mut.seal_leaf.Goals as goal
 
 pub returns-clause-packed : goal.returns-clause-packed

@@ -1,8 +1,8 @@
 use Rattle.std.proofs.Common.{◌≤◌, ◌-◌, ◌+◌, arith, ap, ◌∙◌}
 use Rattle.blk_base.specs.Leaf.{header_at, item_offset}
 use Rattle.leaf_edit.specs.Packed.{lowered}
-use Rattle.leaf_edit.proofs.Parts.{front_in_front}
-use Rattle.leaf_edit.proofs.Shifts.{moved_up_last, read_up, lowered_fits}
+use Rattle.leaf_edit.specs.Parts.{front_in_front}
+use Rattle.leaf_edit.specs.Shifts.{moved_up_last, read_up, lowered_fits}
 use Rattle.leaf_edit.proofs.shift.lower_headers.Goals as goal
 
 pub overflow_sub-header : goal.overflow_sub-header

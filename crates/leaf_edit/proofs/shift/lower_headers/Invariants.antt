@@ -1,5 +1,5 @@
 use Rattle.leaf_edit.specs.Packed.{lowered}
-use Rattle.leaf_edit.proofs.Shifts.{MovedUp}
+use Rattle.leaf_edit.specs.Shifts.{MovedUp}
 use Rattle.leaf_edit.proofs.shift.lower_headers.Given as goal
 
 abbrev pub invariant-loop-i : goal.invariant-loop-i

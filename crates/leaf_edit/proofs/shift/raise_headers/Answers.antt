@@ -1,8 +1,8 @@
 use Rattle.std.proofs.Common.{◌<◌, ◌-◌, ◌+◌, ◌^◌, arith, ap, ◌∙◌}
 use Rattle.blk_base.specs.Leaf.{header_at, item_offset}
 use Rattle.leaf_edit.specs.Packed.{raised}
-use Rattle.leaf_edit.proofs.Parts.{back_in_back}
-use Rattle.leaf_edit.proofs.Shifts.{moved_down_next, read_down, raised_fits}
+use Rattle.leaf_edit.specs.Parts.{back_in_back}
+use Rattle.leaf_edit.specs.Shifts.{moved_down_next, read_down, raised_fits}
 use Rattle.leaf_edit.proofs.shift.raise_headers.Goals as goal
 
 pub overflow_add-header : goal.overflow_add-header

@@ -1,5 +1,5 @@
 use Rattle.leaf_edit.specs.Packed.{raised}
-use Rattle.leaf_edit.proofs.Shifts.{MovedDown}
+use Rattle.leaf_edit.specs.Shifts.{MovedDown}
 use Rattle.leaf_edit.proofs.shift.raise_headers.Given as goal
 
 abbrev pub invariant-loop-i : goal.invariant-loop-i

@@ -2,7 +2,7 @@ use Rattle.std.proofs.Common.{◌≡◌, ◌-◌, ℕ, List, arith, ap, ◌∙�
 use Rattle.blk_base.specs.Leaf.{Item, count_of, data_of}
 use Rattle.leaf_view.specs.Listed.{items_in}
 use Rattle.leaf_edit.specs.Packed.{IsPacked, data_before}
-use Rattle.leaf_edit.proofs.Amounts.{data_before_all}
+use Rattle.leaf_edit.specs.Amounts.{data_before_all}
 use Rattle.leaf_edit.proofs.whole.room.Goals as goal
 
 -- the lowest data

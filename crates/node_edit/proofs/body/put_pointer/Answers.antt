@@ -2,7 +2,7 @@ use Rattle.std.proofs.Common.{◌+◌, refl, arith}
 use Rattle.blk_base.specs.Bytes.{number_bytes}
 use Rattle.blk_base.specs.Leaf.{pointer_at}
 use Rattle.leaf_edit.specs.Images.{key_image}
-use Rattle.leaf_edit.proofs.Parts.{three_writes}
+use Rattle.leaf_edit.specs.Parts.{three_writes}
 use Rattle.node_edit.specs.Pointers.{pointer_image}
 use Rattle.node_edit.proofs.body.put_pointer.Goals as goal
 

@@ -1,7 +1,7 @@
 use Rattle.std.proofs.Common.{◌+◌, ◌∙◌, arith}
 use Rattle.blk_base.specs.Leaf.{pointer_at}
 use Rattle.leaf_view.specs.Listed.{pointers_in}
-use Rattle.leaf_edit.proofs.Parts.{copied}
+use Rattle.leaf_edit.specs.Parts.{copied}
 use Rattle.node_edit.proofs.Edits.{removed}
 use Rattle.node_edit.proofs.body.remove_pointer.Goals as goal
 

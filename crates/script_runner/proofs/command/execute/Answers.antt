@@ -1,4 +1,4 @@
-use Rattle.std.proofs.Common.{◌≡◌, ℕ, List, sym, subst}
+use Rattle.std.proofs.Common.{ℕ, List, sym, subst}
 use Rattle.std.specs.Cmp.Lexicographic.{same_text}
 use Rattle.script_runner.specs.Mkfs.{HasSuperAsked, HasSuperOf}
 use Rattle.script_runner.proofs.VolumeLemmas.{crash_same}

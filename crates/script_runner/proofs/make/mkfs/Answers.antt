@@ -1,5 +1,4 @@
 use Rattle.std.proofs.Common.{◌≤◌, refl, arith}
-use Rattle.script_runner.specs.Mkfs.{AreVolume}
 use Rattle.script_runner.proofs.VolumeLemmas.{IsSize, crash_same, crash_stands, same_volume, seen_stands, seen_super}
 use Rattle.script_runner.proofs.make.mkfs.Goals as goal
 

@@ -1,4 +1,4 @@
-use Rattle.std.proofs.Common.{◌+◌, arith, take}
+use Rattle.std.proofs.Common.{arith}
 use Rattle.std.proofs.lemmas.List.{take_rest}
 use Rattle.script_runner.proofs.SinkLemmas.{Takes-goes_on, TakesFront-goes_on, on_err}
 use Rattle.script_runner.proofs.text.put.Goals as goal

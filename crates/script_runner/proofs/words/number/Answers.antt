@@ -1,5 +1,4 @@
-use Rattle.std.proofs.Common.{rules, ◌≡◌, ◌≤◌, ◌<◌, ℕ, Some, IfSome, IsNone, ◌+◌, ◌-◌, ◌*◌, length, ◌/◌, ◌%◌, Bool, true, false, nat_eq, nat_lt, List, [], ◌∷◌, ◌++◌, slice_index_or, slice_set, bit_and, bit_or, inl, inr, Fits, w8, w32, w64, Bor, MutBor, arith}
-use Rattle.script_runner.specs.Words.{IsNumber, IsUuidText}
+use Rattle.std.proofs.Common.{inl, inr, arith}
 use Rattle.script_runner.proofs.WordLemmas.{number_is_above, number_is_read}
 use Rattle.script_runner.proofs.words.number.Goals as goal
 use Rattle.script_runner.proofs.words.number.Goals.{in_default, in_default-2}

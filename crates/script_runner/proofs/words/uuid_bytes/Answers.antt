@@ -1,4 +1,4 @@
-use Rattle.std.proofs.Common.{◌≡◌, sym, true≢false}
+use Rattle.std.proofs.Common.{sym, true≢false}
 use Rattle.script_runner.proofs.UuidLemmas.{text_from_parsed, parsed_from_text}
 use Rattle.script_runner.proofs.words.uuid_bytes.Goals as goal
 

@@ -3,7 +3,7 @@ use Rattle.blk_base.specs.Bytes.{number_bytes}
 use Rattle.blk_base.specs.Leaf.{header_at}
 use Rattle.leaf_edit.specs.Images.{key_image}
 use Rattle.leaf_edit.specs.Packed.{header_bytes}
-use Rattle.leaf_edit.proofs.Parts.{three_writes}
+use Rattle.leaf_edit.specs.Parts.{three_writes}
 use Rattle.leaf_edit.proofs.header.Header.write.Goals as goal
 
 pub returns-clause-written : goal.returns-clause-written

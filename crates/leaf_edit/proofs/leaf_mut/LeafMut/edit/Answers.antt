@@ -1,7 +1,7 @@
 use Rattle.std.proofs.Common.{◌∙◌, ap, sym, Ok}
 use Rattle.leaf_edit.proofs.Editing.{passes_itself}
 use Rattle.leaf_edit.proofs.Packing.{ok_listed}
-use Rattle.leaf_edit.proofs.Passing.{packed_items, packed_itself}
+use Rattle.leaf_edit.specs.Passing.{packed_items, packed_itself}
 use Rattle.leaf_edit.proofs.leaf_mut.LeafMut.edit.Goals as goal
 
 pub invariant_of-result : goal.invariant_of-result

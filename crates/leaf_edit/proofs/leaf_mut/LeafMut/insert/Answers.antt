@@ -1,5 +1,5 @@
 use Rattle.leaf_edit.proofs.Editing.{passes_itself}
-use Rattle.leaf_edit.proofs.Passing.{packed_items, packed_itself}
+use Rattle.leaf_edit.specs.Passing.{packed_items, packed_itself}
 use Rattle.leaf_edit.proofs.leaf_mut.LeafMut.insert.Goals as goal
 
 pub invariant_of-self : goal.invariant_of-self

@@ -1,6 +1,6 @@
 use Rattle.leaf_view.specs.Listed.{items_in}
 use Rattle.leaf_edit.proofs.Editing.{passes_itself, is_ok, viewed, join_room, join_order, joined}
-use Rattle.leaf_edit.proofs.Passing.{packed_itself}
+use Rattle.leaf_edit.specs.Passing.{packed_itself}
 use Rattle.leaf_edit.proofs.leaf_mut.LeafMut.join.Goals as goal
 
 pub of_body-requires : goal.of_body-requires

@@ -1,7 +1,7 @@
 use Rattle.std.proofs.Common.{ap, arith, length}
 use Rattle.leaf_view.specs.Listed.{items_in}
 use Rattle.leaf_edit.proofs.Editing.{passes_itself, is_ok, viewed, split_room, split_order, split_back}
-use Rattle.leaf_edit.proofs.Passing.{packed_items, packed_itself}
+use Rattle.leaf_edit.specs.Passing.{packed_items, packed_itself}
 use Rattle.leaf_edit.proofs.leaf_mut.LeafMut.split.Goals as goal
 
 pub of_body-requires : goal.of_body-requires

@@ -9,7 +9,7 @@ use Rattle.blk_base.specs.Leaf.{header_at}
 use Rattle.leaf_edit.specs.declared.header.Header.{Header}
 use Rattle.leaf_edit.specs.Images.{key_image}
 use Rattle.leaf_edit.specs.Packed.{HeaderFits, header_of, header_bytes}
-use Rattle.leaf_edit.proofs.Parts.{part_within, field_part, drop-with_bytes_here}
+use Rattle.leaf_edit.specs.Parts.{part_within, field_part, drop-with_bytes_here}
 
 -- a number that is written reads back
 pub number_reads_back : (n : ℕ) (xs : List ℕ) (at value : ℕ) (rest : List ℕ) → drop at xs ≡ number_bytes n value ++ rest → value < 256 ^ n → field n xs at ≡ value

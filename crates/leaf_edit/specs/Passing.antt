@@ -9,8 +9,8 @@ use Rattle.leaf_view.specs.Listed.{items_in}
 use Rattle.leaf_view.specs.Search.{keys_of}
 use Rattle.leaf_view.proofs.LeafLaws.{leaf_body_from, leaf_body_listed}
 use Rattle.leaf_edit.specs.Packed.{IsPacked, data_before, place_of}
-use Rattle.leaf_edit.proofs.Amounts.{data_before_more, data_before_le, data_before_rises}
-use Rattle.leaf_edit.proofs.Rises.{rise_head, rise_tail}
+use Rattle.leaf_edit.specs.Amounts.{data_before_more, data_before_le, data_before_rises}
+use Rattle.leaf_edit.specs.Rises.{rise_head, rise_tail}
 
 -- each key is below the next
 rise_at : (items : List Item) (i : ℕ) (d : Item) → keys_rise (keys_of items) ≡ true → suc i < length items → KeyBelow (get_or items i d).0 (get_or items (suc i) d).0

@@ -5,8 +5,8 @@ use Rattle.blk_base.specs.Bytes.{with_bytes}
 use Rattle.blk_base.specs.Leaf.{header_at}
 use Rattle.leaf_edit.specs.declared.header.Header.{Header}
 use Rattle.leaf_edit.specs.Packed.{HeaderFits, header_of, header_bytes, lowered, raised}
-use Rattle.leaf_edit.proofs.Fronts.{header_part, header_reads_back, length-header_bytes}
-use Rattle.leaf_edit.proofs.Parts.{part_in_front, part_in_back, back_in_back, front_in_front, take-with_bytes, drop-with_bytes, length-with_bytes}
+use Rattle.leaf_edit.specs.Fronts.{header_part, header_reads_back, length-header_bytes}
+use Rattle.leaf_edit.specs.Parts.{part_in_front, part_in_back, back_in_back, front_in_front, take-with_bytes, drop-with_bytes, length-with_bytes}
 
 -- a header in front of a write, and one behind it
 pub header_in_front : (xs ys : List ℕ) (n i : ℕ) → take n xs ≡ take n ys → header_at (i + 1) ≤ n → header_of xs i ≡ header_of ys i
