@@ -1,0 +1,8 @@
+pub mod Slot
+pub mod SlotLends
+pub mod Blocks
+pub mod Table
+pub mod TableLends
+pub mod Counts
+pub mod Kept
+pub mod TreeIn
