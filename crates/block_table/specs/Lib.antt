@@ -4,5 +4,5 @@ pub mod Blocks
 pub mod Table
 pub mod TableLends
 pub mod Counts
-pub mod Kept
+pub mod Laws
 pub mod TreeIn

@@ -1,5 +1,5 @@
 use Rattle.std.proofs.Common.{refl}
-use Rattle.block_table.specs.Kept.{none_free}
+use Rattle.block_table.proofs.Kept.{none_free}
 use Rattle.block_table.proofs.steps.find_free.Goals as goal
 
 pub unreachable-requires : goal.unreachable-requires

@@ -2,7 +2,7 @@ use Rattle.std.proofs.Common.{◌∙◌, ap, sym, List}
 use Rattle.block_table.specs.Slot.{BlockSlot}
 use Rattle.block_table.specs.Table.{all_back}
 use Rattle.block_table.specs.Blocks.{BlockList}
-use Rattle.block_table.specs.Kept.{back_step}
+use Rattle.block_table.proofs.Kept.{back_step}
 use Rattle.block_table.proofs.steps.return_all.Goals as goal
 
 pub loop-at-preserved : goal.loop-at-preserved

@@ -1,7 +1,7 @@
 use Rattle.std.proofs.Common.{ap, sym, subst, ◌≡◌, false}
 use Rattle.block_table.specs.Slot.{BlockSlot, is_free}
 use Rattle.block_table.specs.Table.{Table}
-use Rattle.block_table.specs.Kept.{IsTable-kept_at, read_at}
+use Rattle.block_table.proofs.Kept.{IsTable-kept_at, read_at}
 use Rattle.block_table.proofs.table.BlockTable.block_mut.Goals as goal
 
 pub invariant_of-self-lent : goal.invariant_of-self-lent

@@ -3,7 +3,7 @@ use Rattle.std.specs.Prelude.{vec_len, vec_capacity}
 use Rattle.block_table.specs.Slot.{BlockSlot, is_free, free_slot}
 use Rattle.block_table.specs.Table.{Table}
 use Rattle.block_table.specs.Counts.{free_from-le-length}
-use Rattle.block_table.specs.Kept.{IsTable-freed_at, taken_state}
+use Rattle.block_table.proofs.Kept.{IsTable-freed_at, taken_state}
 use Rattle.block_table.proofs.table.BlockTable.make_free.Goals as goal
 
 -- the new count is right

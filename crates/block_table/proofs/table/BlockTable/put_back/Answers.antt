@@ -1,7 +1,7 @@
 use Rattle.std.proofs.Common.{ap, sym, arith, ◌≡◌, ◌∙◌, [], ℕ, length}
 use Rattle.std.specs.Prelude.{vec_len, vec_capacity}
 use Rattle.block_table.specs.Table.{Table, IsTable, all_back}
-use Rattle.block_table.specs.Kept.{IsTable-back, IsTable-stocked}
+use Rattle.block_table.proofs.Kept.{IsTable-back, IsTable-stocked}
 use Rattle.block_table.proofs.table.BlockTable.put_back.Goals as goal
 
 pub invariant_of-self : goal.invariant_of-self

@@ -1,5 +1,5 @@
 use Rattle.block_table.specs.Counts.{used_of-le-length}
-use Rattle.block_table.specs.Kept.{IsTable-reserved}
+use Rattle.block_table.proofs.Kept.{IsTable-reserved}
 use Rattle.std.proofs.Common.{arith}
 use Rattle.block_table.proofs.table.BlockTable.reserve.Goals as goal
 

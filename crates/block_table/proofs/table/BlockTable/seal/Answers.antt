@@ -1,7 +1,7 @@
 use Rattle.std.proofs.Common.{ap}
 use Rattle.block_table.specs.Slot.{BlockSlot, is_free}
 use Rattle.block_table.specs.Table.{Table}
-use Rattle.block_table.specs.Kept.{IsTable-kept_at}
+use Rattle.block_table.proofs.Kept.{IsTable-kept_at}
 use Rattle.block_table.proofs.table.BlockTable.seal.Goals as goal
 
 pub invariant_of-self : goal.invariant_of-self

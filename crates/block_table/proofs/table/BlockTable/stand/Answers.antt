@@ -2,7 +2,7 @@ use Rattle.std.proofs.Common.{ap, sym, ◌≡◌, ◌+◌}
 use Rattle.std.specs.Prelude.{vec_len, vec_capacity}
 use Rattle.block_table.specs.Slot.{BlockSlot, is_free}
 use Rattle.block_table.specs.Table.{Table}
-use Rattle.block_table.specs.Kept.{IsTable-taken_at, some_free_at}
+use Rattle.block_table.proofs.Kept.{IsTable-taken_at, some_free_at}
 use Rattle.block_table.proofs.table.BlockTable.stand.Goals as goal
 
 pub overflow_sub-self : goal.overflow_sub-self

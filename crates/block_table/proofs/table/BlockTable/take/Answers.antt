@@ -2,7 +2,7 @@ use Rattle.std.proofs.Common.{ap, sym, subst, arith, ◌≡◌, ◌+◌, ◌<◌
 use Rattle.std.specs.Prelude.{vec_len, vec_capacity}
 use Rattle.block_table.specs.Slot.{BlockSlot, is_free, free_slot}
 use Rattle.block_table.specs.Table.{is_free_block}
-use Rattle.block_table.specs.Kept.{IsTable-taken}
+use Rattle.block_table.proofs.Kept.{IsTable-taken}
 use Rattle.block_table.proofs.table.BlockTable.take.Goals as goal
 
 pub invariant_of-self : goal.invariant_of-self
