@@ -2,7 +2,7 @@
 use Rattle.std.proofs.Common.{ℕ, ◌+◌, ◌<◌, ◌≡◌, arith, sym, subst, inl, inr}
 use Rattle.std.proofs.lemmas.Bool.{cases_eq}
 use Rattle.flat_model.specs.Names.{FlatName}
-use Rattle.flat_model.specs.Volume.{RunSub, SubMarks, last_index_in, note_name}
+use Rattle.flat_model.specs.Volume.{RunSub, last_index_in, note_name}
 use Rattle.flat_model.specs.Step.{IsNextIndex}
 use Rattle.flat_model.specs.Running.{IsSound}
 use Rattle.flat_model.proofs.Fresh.{last_index_note_same, last_index_note_other}

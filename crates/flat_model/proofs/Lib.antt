@@ -11,8 +11,4 @@ pub mod Swaps
 pub mod Filled
 pub mod Steps
 pub mod Histories
-pub mod Tables
-pub mod Views
-pub mod Bare
-pub mod Placed
 pub mod Choices

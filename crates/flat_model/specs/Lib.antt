@@ -9,6 +9,4 @@ pub mod Operations
 pub mod Step
 pub mod Running
 pub mod Codes
-pub mod View
-pub mod Building
 pub mod Unmarked

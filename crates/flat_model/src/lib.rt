@@ -9,16 +9,12 @@ mod answer;
 mod laws;
 mod op;
 mod place;
-mod sub;
-mod table;
 #[cfg(test)]
 mod tests;
 mod view;
-mod volume;
 
 pub use answer::{Answer, Reason};
 pub use laws::{histories_stay_coherent, mounting_is_sound, operations_keep_soundness};
 pub use op::Op;
 pub use place::{Path, Place};
 pub use view::{Kind, NameAt, NameView};
-pub use volume::FlatVolume;

@@ -21,6 +21,20 @@ pub struct NameAt {
     pub ino: Ino,
 }
 
+impl NameAt {
+    /// A copy of it.
+    pub fn copy(&self, alloc: Global) -> Result<NameAt, OutOfMemory>
+        ensures { IfOk result (λ name. name ≡ self.now) }
+    {
+        Ok(NameAt {
+            dir: self.dir,
+            index: self.index,
+            name: self.name.copy(alloc)?,
+            ino: self.ino,
+        })
+    }
+}
+
 /// A subvolume as its names and kinds are seen, wherever they are kept. What each call answers is a matter of the
 /// subvolume alone.
 pub trait NameView {

@@ -1,0 +1,8 @@
+//! An inode apart from its names: its attributes, and the blocks of a file or the target of a symlink.
+#![tactic(auto)]
+
+mod record;
+mod table;
+
+pub use record::{Contents, Inode};
+pub use table::{drop_entries, place_of, put_entry};

@@ -1,0 +1,4 @@
+pub mod View
+pub mod Building
+pub mod Ends
+pub mod Lists

@@ -1,0 +1,12 @@
+//! A subvolume of a flat volume, and what the operations on names make of it.
+#![tactic(auto)]
+
+mod list;
+mod making;
+mod removal;
+mod sub;
+#[cfg(test)]
+mod tests;
+mod walk;
+
+pub use sub::FlatSub;

@@ -1,0 +1,50 @@
+use crate::FlatSub;
+use blk_base::{Name, Text, is_name};
+use flat_model::{Answer, Kind, Path};
+use flat_record::Inode;
+use std::alloc::Global;
+use std::test::Fail;
+
+fn path(alloc: Global, names: &[&[u8]]) -> Result<Path, Fail> {
+    let mut made = Vec::new(alloc);
+    for bytes in names {
+        if !is_name(bytes) {
+            return Err(Fail::from("no name"));
+        }
+        made.push(Name::new(alloc, bytes)?)?;
+    }
+    if made.len() > 64 {
+        return Err(Fail::from("too long"));
+    }
+    Ok(Path::new(made))
+}
+
+#[test]
+fn names_are_made_and_go(rt: HostRuntime) -> Result<(), Fail> {
+    let alloc = rt.alloc();
+    let mut sub = FlatSub::bare(alloc)?;
+    let (root, a) = (path(alloc, &[])?, path(alloc, &[b"a"])?);
+    let (b, below) = (path(alloc, &[b"b"])?, path(alloc, &[b"b", b"a"])?);
+    let file = Inode::new(alloc, Kind::File, 0, Text::new(alloc, b"")?);
+    assert!(rt; matches!(sub.make(alloc, &a, file)?, Answer::Number(257)));
+    let dir = Inode::new(alloc, Kind::Dir, 0, Text::new(alloc, b"")?);
+    assert!(rt; matches!(sub.make(alloc, &b, dir)?, Answer::Number(258)));
+    let other = Inode::new(alloc, Kind::Dir, 0, Text::new(alloc, b"")?);
+    assert!(rt; matches!(sub.make(alloc, &a, other)?, Answer::Exists));
+    assert!(rt; matches!(sub.link(alloc, &b, &below)?, Answer::IsDir));
+    assert!(rt; matches!(sub.link(alloc, &a, &below)?, Answer::Plain));
+    assert!(rt; matches!(sub.lookup(&below), Answer::Number(257)));
+    assert!(rt; matches!(sub.lookup(&root), Answer::Number(256)));
+    assert!(rt; matches!(sub.rmdir(&b), Answer::NotEmpty));
+    assert!(rt; matches!(sub.rmdir(&root), Answer::Loop));
+    assert!(rt; matches!(sub.rmdir(&a), Answer::NotDir));
+    assert!(rt; matches!(sub.unlink(&b), Answer::IsDir));
+    assert!(rt; matches!(sub.unlink(&a), Answer::Plain));
+    assert!(rt; matches!(sub.unlink(&a), Answer::NoEnt));
+    assert!(rt; matches!(sub.unlink(&below), Answer::Plain));
+    assert!(rt; sub.kind(257) == None);
+    assert!(rt; matches!(sub.rmdir(&b), Answer::Plain));
+    assert_eq!(rt; sub.names.len(), 0);
+    assert_eq!(rt; sub.last_index, 4);
+    Ok(())
+}
