@@ -1,1 +1,4 @@
 mod Refusals
+mod Crowds
+mod Choices
+mod Shown

@@ -35,6 +35,13 @@ KeepsVolume run outcome = is_refusal outcome.answer ≡ true → (outcome.next �
 refused_rows : (run : RunSub) (rows : List (Bool × Answer)) (done : Outcome) → is_refusal done.answer ≡ false → KeepsRefused run (unless_refused run rows done)
 refused_rows run rows done works = outcome_cases (KeepsRefused run) run rows done (λ answer refused. (refl, refl)) (λ none refused. absurd (true≢false (sym refused ∙ works)))
 
+-- what an operation owes in a subvolume that makes no name
+abbrev pub IsQuiet : RunSub → Outcome → Type 0
+IsQuiet run outcome = KeepsRefused run outcome × (outcome.made ≡ [])
+
+quiet_rows : (run : RunSub) (rows : List (Bool × Answer)) (done : Outcome) → is_refusal done.answer ≡ false → done.made ≡ [] → IsQuiet run (unless_refused run rows done)
+quiet_rows run rows done works none = (refused_rows run rows done works, outcome_cases (λ (o : Outcome). o.made ≡ []) run rows done (λ answer. refl) (λ _. none))
+
 -- ---- operations on a subvolume
 
 make_refused : (run : RunSub) (path : List (List ℕ)) (inode : InodeRecord) (index : ℕ) → KeepsRefused run (make run path inode index)
@@ -50,13 +57,13 @@ link_refused run old new index =
     let to : WalkEnd = walk run.sub new in
     refused_rows run (link_rows run from to (new_name run.sub.names to index (unwrap_or (ino_at from) 0))) _ refl
 
-unlink_refused : (run : RunSub) (path : List (List ℕ)) → KeepsRefused run (unlink run path)
+pub unlink_quiet : (run : RunSub) (path : List (List ℕ)) → IsQuiet run (unlink run path)
 unfolding unlink
-unlink_refused run path = refused_rows run (unlink_rows run (walk run.sub path)) _ refl
+unlink_quiet run path = quiet_rows run (unlink_rows run (walk run.sub path)) _ refl refl
 
-rmdir_refused : (run : RunSub) (path : List (List ℕ)) → KeepsRefused run (rmdir run path)
+pub rmdir_quiet : (run : RunSub) (path : List (List ℕ)) → IsQuiet run (rmdir run path)
 unfolding rmdir
-rmdir_refused run path = refused_rows run (rmdir_rows run (walk run.sub path)) _ refl
+rmdir_quiet run path = quiet_rows run (rmdir_rows run (walk run.sub path)) _ refl refl
 
 rename_refused : (run : RunSub) (old new : List (List ℕ)) (index : ℕ) → KeepsRefused run (rename run old new index)
 unfolding rename
@@ -75,38 +82,38 @@ exchange_refused run one two i j =
     let made : List FlatName = new_name left first i (unwrap_or (ino_at second) 0) ∷ new_name left second j (unwrap_or (ino_at first) 0) ∷ [] in
     refused_rows run (exchange_rows run one two first second left made) _ refl
 
-lookup_refused : (run : RunSub) (path : List (List ℕ)) → KeepsRefused run (lookup run path)
+pub lookup_quiet : (run : RunSub) (path : List (List ℕ)) → IsQuiet run (lookup run path)
 unfolding lookup
-lookup_refused run path =
+lookup_quiet run path =
     let place : WalkEnd = walk run.sub path in
-    refused_rows run ((is_absent place, NoEnt) ∷ (is_blocked place, NotDir) ∷ []) _ refl
+    quiet_rows run ((is_absent place, NoEnt) ∷ (is_blocked place, NotDir) ∷ []) _ refl refl
 
-write_refused : (run : RunSub) (path : List (List ℕ)) (offset : ℕ) (text : List ℕ) → KeepsRefused run (write run path offset text)
+pub write_quiet : (run : RunSub) (path : List (List ℕ)) (offset : ℕ) (text : List ℕ) → IsQuiet run (write run path offset text)
 unfolding write
-write_refused run path offset text = refused_rows run (file_rows run (walk run.sub path) ((nat_lt most_file_bytes (offset + length text), TooLarge) ∷ [])) _ refl
+write_quiet run path offset text = quiet_rows run (file_rows run (walk run.sub path) ((nat_lt most_file_bytes (offset + length text), TooLarge) ∷ [])) _ refl refl
 
-truncate_refused : (run : RunSub) (path : List (List ℕ)) (size : ℕ) → KeepsRefused run (truncate run path size)
+pub truncate_quiet : (run : RunSub) (path : List (List ℕ)) (size : ℕ) → IsQuiet run (truncate run path size)
 unfolding truncate
-truncate_refused run path size = refused_rows run (file_rows run (walk run.sub path) ((nat_lt most_file_bytes size, TooLarge) ∷ [])) _ refl
+truncate_quiet run path size = quiet_rows run (file_rows run (walk run.sub path) ((nat_lt most_file_bytes size, TooLarge) ∷ [])) _ refl refl
 
-read_refused : (run : RunSub) (path : List (List ℕ)) (offset count : ℕ) → KeepsRefused run (read run path offset count)
+pub read_quiet : (run : RunSub) (path : List (List ℕ)) (offset count : ℕ) → IsQuiet run (read run path offset count)
 unfolding read
-read_refused run path offset count = refused_rows run (file_rows run (walk run.sub path) []) _ refl
+read_quiet run path offset count = quiet_rows run (file_rows run (walk run.sub path) []) _ refl refl
 
-set_attribute_refused : (run : RunSub) (path : List (List ℕ)) (name value : List ℕ) → KeepsRefused run (set_attribute run path name value)
+pub set_attribute_quiet : (run : RunSub) (path : List (List ℕ)) (name value : List ℕ) → IsQuiet run (set_attribute run path name value)
 unfolding set_attribute
-set_attribute_refused run path name value =
+set_attribute_quiet run path name value =
     let place : WalkEnd = walk run.sub path in
     let attributes : Attributes = insert (attributes_there (record_at run.sub place)) name value in
-    refused_rows run ((is_absent place, NoEnt) ∷ (is_blocked place, NotDir) ∷ (nat_lt 1024 (length value), TooLarge) ∷ (nat_lt most_item_bytes (xattr_item_length attributes (name_hash_of name)), Collide) ∷ []) _ refl
+    quiet_rows run ((is_absent place, NoEnt) ∷ (is_blocked place, NotDir) ∷ (nat_lt 1024 (length value), TooLarge) ∷ (nat_lt most_item_bytes (xattr_item_length attributes (name_hash_of name)), Collide) ∷ []) _ refl refl
 
-remove_attribute_refused : (run : RunSub) (path : List (List ℕ)) (name : List ℕ) → KeepsRefused run (remove_attribute run path name)
+pub remove_attribute_quiet : (run : RunSub) (path : List (List ℕ)) (name : List ℕ) → IsQuiet run (remove_attribute run path name)
 unfolding remove_attribute
-remove_attribute_refused run path name = refused_rows run (attribute_rows run (walk run.sub path) name) _ refl
+remove_attribute_quiet run path name = quiet_rows run (attribute_rows run (walk run.sub path) name) _ refl refl
 
-get_attribute_refused : (run : RunSub) (path : List (List ℕ)) (name : List ℕ) → KeepsRefused run (get_attribute run path name)
+pub get_attribute_quiet : (run : RunSub) (path : List (List ℕ)) (name : List ℕ) → IsQuiet run (get_attribute run path name)
 unfolding get_attribute
-get_attribute_refused run path name = refused_rows run (attribute_rows run (walk run.sub path) name) _ refl
+get_attribute_quiet run path name = quiet_rows run (attribute_rows run (walk run.sub path) name) _ refl refl
 
 -- ---- operations on a volume
 
@@ -133,14 +140,14 @@ step_refused run (Create place) indexes = at_place_refused run place (λ sub. ma
 step_refused run (Mkdir place) indexes = at_place_refused run place (λ sub. make sub place.path new_dir (slice_index indexes 0)) (λ sub. make_refused sub place.path new_dir (slice_index indexes 0))
 step_refused run (Symlink place target) indexes = at_place_refused run place (λ sub. make sub place.path (new_link target) (slice_index indexes 0)) (λ sub. make_refused sub place.path (new_link target) (slice_index indexes 0))
 step_refused run (Link old new) indexes = at_places_refused run old new (λ sub. link sub old.path new.path (slice_index indexes 0)) (λ sub. link_refused sub old.path new.path (slice_index indexes 0))
-step_refused run (Unlink place) indexes = at_place_refused run place (λ sub. unlink sub place.path) (λ sub. unlink_refused sub place.path)
-step_refused run (Rmdir place) indexes = at_place_refused run place (λ sub. rmdir sub place.path) (λ sub. rmdir_refused sub place.path)
+step_refused run (Unlink place) indexes = at_place_refused run place (λ sub. unlink sub place.path) (λ sub. (unlink_quiet sub place.path).0)
+step_refused run (Rmdir place) indexes = at_place_refused run place (λ sub. rmdir sub place.path) (λ sub. (rmdir_quiet sub place.path).0)
 step_refused run (Rename old new) indexes = at_places_refused run old new (λ sub. rename sub old.path new.path (slice_index indexes 0)) (λ sub. rename_refused sub old.path new.path (slice_index indexes 0))
 step_refused run (Exchange one two) indexes = at_places_refused run one two (λ sub. exchange sub one.path two.path (slice_index indexes 0) (slice_index indexes 1)) (λ sub. exchange_refused sub one.path two.path (slice_index indexes 0) (slice_index indexes 1))
-step_refused run (Lookup place) indexes = at_place_refused run place (λ sub. lookup sub place.path) (λ sub. lookup_refused sub place.path)
-step_refused run (Write place offset text) indexes = at_place_refused run place (λ sub. write sub place.path offset text) (λ sub. write_refused sub place.path offset text)
-step_refused run (Truncate place size) indexes = at_place_refused run place (λ sub. truncate sub place.path size) (λ sub. truncate_refused sub place.path size)
-step_refused run (Read place offset count) indexes = at_place_refused run place (λ sub. read sub place.path offset count) (λ sub. read_refused sub place.path offset count)
-step_refused run (SetAttr place name value) indexes = at_place_refused run place (λ sub. set_attribute sub place.path name value) (λ sub. set_attribute_refused sub place.path name value)
-step_refused run (DelAttr place name) indexes = at_place_refused run place (λ sub. remove_attribute sub place.path name) (λ sub. remove_attribute_refused sub place.path name)
-step_refused run (GetAttr place name) indexes = at_place_refused run place (λ sub. get_attribute sub place.path name) (λ sub. get_attribute_refused sub place.path name)
+step_refused run (Lookup place) indexes = at_place_refused run place (λ sub. lookup sub place.path) (λ sub. (lookup_quiet sub place.path).0)
+step_refused run (Write place offset text) indexes = at_place_refused run place (λ sub. write sub place.path offset text) (λ sub. (write_quiet sub place.path offset text).0)
+step_refused run (Truncate place size) indexes = at_place_refused run place (λ sub. truncate sub place.path size) (λ sub. (truncate_quiet sub place.path size).0)
+step_refused run (Read place offset count) indexes = at_place_refused run place (λ sub. read sub place.path offset count) (λ sub. (read_quiet sub place.path offset count).0)
+step_refused run (SetAttr place name value) indexes = at_place_refused run place (λ sub. set_attribute sub place.path name value) (λ sub. (set_attribute_quiet sub place.path name value).0)
+step_refused run (DelAttr place name) indexes = at_place_refused run place (λ sub. remove_attribute sub place.path name) (λ sub. (remove_attribute_quiet sub place.path name).0)
+step_refused run (GetAttr place name) indexes = at_place_refused run place (λ sub. get_attribute sub place.path name) (λ sub. (get_attribute_quiet sub place.path name).0)
