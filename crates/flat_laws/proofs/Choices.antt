@@ -190,9 +190,9 @@ module _ (run : RunSub) (sound : IsSound run) where
       let free_a : IsFreeIn left a.dir a.bytes = λ q c. slot_freed run.sub sound.coherent one run.sub.names (λ r d. d) a.dir a.bytes (Some a) hold_a.at q (names_without_part without_a b_at q c) in
       let free_b : IsFreeIn left b.dir b.bytes = slot_freed run.sub sound.coherent two without_a (names_without_part run.sub.names a_at) b.dir b.bytes (Some b) hold_b.at in
       let set = names_without_set without_a b_at (names_without_set run.sub.names a_at sound.coherent.in_order) in
-      let is : (indexes : List ℕ) → collides first second indexes ≡ collides a_at b_at indexes = λ indexes k. collides (hold_a.at k) (hold_b.at k) indexes in
       let core : collides a_at b_at here ≡ collides a_at b_at there = collide_two left a b (slice_index here 0) (slice_index here 1) (slice_index there 0) (slice_index there 1) set free_a free_b apart in
-      is here ∙ core ∙ sym (is there)))
+      let at_b : collides a_at second here ≡ collides a_at second there = subst (λ w. collides a_at w here ≡ collides a_at w there) (sym hold_b.at) core in
+      subst (λ v. collides v second here ≡ collides v second there) (sym hold_a.at) at_b))
       (λ here there. refl)
       (λ indexes. refl)
       (λ none. (

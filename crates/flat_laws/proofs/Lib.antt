@@ -1,4 +1,4 @@
-mod Refusals
-mod Crowds
-mod Choices
-mod Shown
+pub mod Refusals
+pub mod Crowds
+pub mod Choices
+pub mod Shown

@@ -1,5 +1,5 @@
 -- An operation that is refused leaves a volume in its run as it was.
-use Rattle.std.proofs.Common.{◌≡◌, ℕ, ◌+◌, Bool, true, false, cond, List, [], ◌∷◌, length, Option, Some, None, refl, sym, ap, ◌∙◌}
+use Rattle.std.proofs.Common.{◌≡◌, ℕ, ◌+◌, Bool, true, false, cond, List, [], ◌∷◌, length, Some, None, refl, sym, ap, ◌∙◌}
 use Rattle.std.specs.Bool.{nat_eq, nat_lt}
 use Rattle.std.specs.List.{slice_index}
 use Rattle.std.specs.Option.{unwrap_or}

@@ -1,5 +1,5 @@
 -- In a volume an operation leaves nothing open but the indexes of its new names.
-use Rattle.std.proofs.Common.{◌≡◌, ℕ, Bool, true, false, cond, List, [], Option, Some, None, refl, sym, ap, subst}
+use Rattle.std.proofs.Common.{◌≡◌, ℕ, true, false, cond, List, [], Some, None, refl, sym, ap, subst}
 use Rattle.std.specs.Bool.{nat_eq}
 use Rattle.std.specs.List.{slice_index}
 use Rattle.std.specs.FinMap.{get, insert}

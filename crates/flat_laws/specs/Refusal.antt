@@ -1,7 +1,7 @@
 -- Which answers refuse an operation.
 use Rattle.std.specs.Prelude.{Bool, true, false}
 use Rattle.flat_model.specs.declared.answer.Answer.{Answer}
-use Rattle.flat_model.specs.declared.answer.Answer.TheVariants.{Plain, Number, Bytes, Already, Log, Commit, Full, Sync, Xdev, NoEnt, NotDir, IsDir, Exists, NotEmpty, Loop, Links, TooLarge, NoAttr, Collide, NoSpace, Io}
+use Rattle.flat_model.specs.declared.answer.Answer.TheVariants.{Xdev, NoEnt, NotDir, IsDir, Exists, NotEmpty, Loop, Links, TooLarge, NoAttr, Collide}
 
 -- an answer that refuses an operation (own)
 abbrev pub is_refusal : Answer → Bool
