@@ -6,3 +6,4 @@ pub mod Rows
 pub mod Shares
 pub mod Makings
 pub mod Movings
+pub mod Renames

@@ -353,4 +353,118 @@ impl FlatSub {
         }
         None
     }
+
+    /// Gives what is at the end of one walk the slot at the end of the other in place of its own, once no row before the
+    /// one on crowded items refused it.
+    fn move_name(
+        &mut self,
+        alloc: Global,
+        old: &Path,
+        new: &Path,
+        from: End,
+        to: End,
+    ) -> Result<Answer, OutOfMemory>
+        requires kept { IsWellKept self.old }
+        requires from { IsEnd (sub_view self.old).sub.names (walk (sub_view self.old).sub old.now) from }
+        requires to { IsEnd (sub_view self.old).sub.names (walk (sub_view self.old).sub new.now) to }
+        requires open { None ≡ first_answer (rename_tests (sub_view self.old) old.now new.now (walk (sub_view self.old).sub old.now) (walk (sub_view self.old).sub new.now)) }
+        ensures done { IfOk result (ComesTo (rename (sub_view self.old) old.now new.now (self.old.last_index + 1)) (sub_view self.new)) }
+        ensures err { OnErr result (sub_view self.new ≡ sub_view self.old) }
+        ensures kept { IsWellKept self.new }
+    {
+        let mut list = NameList::copy_of(alloc, self)?;
+        list.remove_end(self, to);
+        let lost = list.lost(to);
+        list.remove_end(self, from);
+        let index = self.last_index + 1;
+        let at = name_at(alloc, new, to, index, from.ino())?;
+        let near = list.make(alloc, &at)?;
+        if list.is_crowded(&at, near) {
+            return Ok(Answer::Collide);
+        }
+        self.dir_indexes.reserve(1)?;
+        self.settle(list, at.dir.0, index);
+        self.drop_lost(lost);
+        Ok(Answer::Plain)
+    }
+
+    /// Gives what is at one place the other in place of it; what was there loses that name.
+    pub fn rename(&mut self, alloc: Global, old: &Path, new: &Path) -> Result<Answer, OutOfMemory>
+        requires { IsWellKept self.old }
+        ensures done { IfOk result (ComesTo (rename (sub_view self.old) old.now new.now (self.old.last_index + 1)) (sub_view self.new)) }
+        ensures err { OnErr result (sub_view self.new ≡ sub_view self.old) }
+        ensures kept { IsWellKept self.new }
+    {
+        let (from, to) = (self.walk(old), self.walk(new));
+        match self.rename_refusal(old, new, from, to) {
+            Some(answer) => Ok(answer),
+            None => self.move_name(alloc, old, new, from, to),
+        }
+    }
+
+    /// Has these names and indexes in place of its own.
+    fn settle_all(&mut self, list: NameList, dir_indexes: Vec<(u64, u64)>, last_index: u64)
+        requires list { IsList list }
+        ensures view { sub_view self.new ≡ record { sub = record { inodes = (sub_view self.old).sub.inodes; names = list_view list }; marks = record { last_ino = self.old.last_ino; last_index = last_index; dir_indexes = from_entries dir_indexes.items } } }
+        ensures kept { IsWellKept self.new }
+    {
+        self.names = list.names;
+        self.near = list.near;
+        self.dir_indexes = dir_indexes;
+        self.last_index = last_index;
+    }
+
+    /// Swaps what is at the ends of two walks, once no row before the one on crowded items refused it.
+    fn swap_names(
+        &mut self,
+        alloc: Global,
+        one: &Path,
+        two: &Path,
+        first: End,
+        second: End,
+    ) -> Result<Answer, OutOfMemory>
+        requires kept { IsWellKept self.old }
+        requires first { IsEnd (sub_view self.old).sub.names (walk (sub_view self.old).sub one.now) first }
+        requires second { IsEnd (sub_view self.old).sub.names (walk (sub_view self.old).sub two.now) second }
+        requires open { None ≡ first_answer (exchange_tests (sub_view self.old) one.now two.now (walk (sub_view self.old).sub one.now) (walk (sub_view self.old).sub two.now)) }
+        ensures done { IfOk result (ComesTo (exchange (sub_view self.old) one.now two.now (self.old.last_index + 1) (self.old.last_index + 2)) (sub_view self.new)) }
+        ensures err { OnErr result (sub_view self.new ≡ sub_view self.old) }
+        ensures kept { IsWellKept self.new }
+    {
+        let mut list = NameList::copy_of(alloc, self)?;
+        list.remove_end(self, first);
+        list.remove_end(self, second);
+        let index = self.last_index + 1;
+        let other_index = self.last_index + 2;
+        let at = name_at(alloc, one, first, index, second.ino())?;
+        let other = name_at(alloc, two, second, other_index, first.ino())?;
+        let near = list.has_room_near(&at);
+        let other_near = list.has_room_near(&other);
+        list.add(at.copy(alloc)?, near)?;
+        list.add(other.copy(alloc)?, other_near)?;
+        if list.is_crowded(&at, near) {
+            return Ok(Answer::Collide);
+        }
+        if list.is_crowded(&other, other_near) {
+            return Ok(Answer::Collide);
+        }
+        let indexes = noted(alloc, &self.dir_indexes, at.dir.0, index)?;
+        let both = noted(alloc, &indexes, other.dir.0, other_index)?;
+        self.settle_all(list, both, other_index);
+        Ok(Answer::Plain)
+    }
+
+    /// Swaps what is at two places.
+    pub fn exchange(&mut self, alloc: Global, one: &Path, two: &Path) -> Result<Answer, OutOfMemory>
+        requires { IsWellKept self.old }
+        ensures done { IfOk result (ComesTo (exchange (sub_view self.old) one.now two.now (self.old.last_index + 1) (self.old.last_index + 2)) (sub_view self.new)) }
+        ensures err { OnErr result (sub_view self.new ≡ sub_view self.old) }
+        ensures kept { IsWellKept self.new }
+    {
+        let (first, second) = (self.walk(one), self.walk(two));
+        match self.exchange_refusal(one, two, first, second) {
+            Some(answer) => Ok(answer),
+            None => self.swap_names(alloc, one, two, first, second),
+        }
+    }
 }
