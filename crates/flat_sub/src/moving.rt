@@ -1,6 +1,6 @@
 //! What moves names: rename and exchange.
-ghost use Rattle.std.specs.Prelude.{◌≡◌, ◌<◌, ◌+◌, ◌^◌, ℕ, ◌&&◌, ◌||◌, not, List, length, vec_len, vec_capacity, IfOk, OnErr, None, false};
-ghost use Rattle.std.specs.FinMap.{from_entries};
+ghost use Rattle.std.specs.Prelude.{◌≡◌, ◌<◌, ◌+◌, ◌^◌, ℕ, ◌&&◌, ◌||◌, not, List, length, vec_len, vec_capacity, IfOk, OnErr, None, false, IsTrue};
+ghost use Rattle.std.specs.FinMap.{from_entries, is_sorted};
 ghost use Rattle.std.specs.Ordering.{nat_cmp};
 ghost use Rattle.flat_model.specs.Names.{FlatName, remove_name, links_of};
 ghost use Rattle.flat_model.specs.Volume.{is_dir_there, is_other_there};
@@ -218,7 +218,8 @@ fn noted(
     dir: u64,
     index: u64,
 ) -> Result<Vec<(u64, u64)>, OutOfMemory>
-    ensures { IfOk result (λ noted. from_entries {R = nat_cmp} noted.items ≡ noted_index (from_entries indexes.now.items) dir index) }
+    ensures map { IfOk result (λ noted. from_entries {R = nat_cmp} noted.items ≡ noted_index (from_entries indexes.now.items) dir index) }
+    ensures rising { IsTrue (is_sorted nat_cmp indexes.now.items) → IfOk result (λ noted. IsTrue (is_sorted nat_cmp noted.items)) }
 {
     let greatest = last_index_of(indexes, dir).max(index);
     let mut noted = Vec::from_slice(alloc, indexes)?;
@@ -402,18 +403,6 @@ impl FlatSub {
         }
     }
 
-    /// Has these names and indexes in place of its own.
-    fn settle_all(&mut self, list: NameList, dir_indexes: Vec<(u64, u64)>, last_index: u64)
-        requires list { IsList list }
-        ensures view { sub_view self.new ≡ record { sub = record { inodes = (sub_view self.old).sub.inodes; names = list_view list }; marks = record { last_ino = self.old.last_ino; last_index = last_index; dir_indexes = from_entries dir_indexes.items } } }
-        ensures kept { IsWellKept self.new }
-    {
-        self.names = list.names;
-        self.near = list.near;
-        self.dir_indexes = dir_indexes;
-        self.last_index = last_index;
-    }
-
     /// Swaps what is at the ends of two walks, once no row before the one on crowded items refused it.
     fn swap_names(
         &mut self,
@@ -450,7 +439,10 @@ impl FlatSub {
         }
         let indexes = noted(alloc, &self.dir_indexes, at.dir.0, index)?;
         let both = noted(alloc, &indexes, other.dir.0, other_index)?;
-        self.settle_all(list, both, other_index);
+        self.names = list.names;
+        self.near = list.near;
+        self.dir_indexes = both;
+        self.last_index = other_index;
         Ok(Answer::Plain)
     }
 

@@ -1,6 +1,4 @@
 use Rattle.std.proofs.Common.{Some, ap, sym, ◌∙◌}
-use Rattle.flat_record.specs.RecordView.{inode_view}
-use Rattle.flat_record.proofs.Tables.{remove_seen}
 use Rattle.flat_sub.specs.Ends.{with_sub}
 use Rattle.flat_sub.specs.Moves.{without_lost}
 use Rattle.flat_sub.specs.View.{sub_view}
@@ -10,5 +8,5 @@ pub returns-in-Some-clause-view : goal.returns-in-Some-clause-view
 returns-in-Some-clause-view c =
     let before = c.args.self.now in
     let run = sub_view before in
-    ap (λ inodes. with_sub run (record run.sub { inodes = inodes })) (remove_seen inode_view c.drop_entries.new.entries.items before.inodes.items c.in-Some.ino c.drop_entries.ensures.map)
+    ap (λ inodes. with_sub run (record run.sub { inodes = inodes })) c.drop_entries.ensures.map
     ∙ sym (ap (λ lost. with_sub run (record run.sub { inodes = without_lost run.sub.inodes lost })) c.in-Some.is)
