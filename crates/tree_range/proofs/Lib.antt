@@ -3,5 +3,9 @@ pub mod Under
 pub mod Bodies
 pub mod Law
 pub mod Local
-pub mod Descent
-pub mod Standing
+pub mod Ways
+mod Cuts
+mod Children
+mod Found
+mod Spots
+mod Looked

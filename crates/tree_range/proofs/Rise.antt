@@ -31,6 +31,11 @@ pub rise_right : (xs ys : List Item) → ItemsRise (xs ++ ys) → ItemsRise ys
 rise_right [] ys h = h
 rise_right (x ∷ xs) ys h = rise_right xs ys (rise_tail x (xs ++ ys) h)
 
+pub rise_left : (xs ys : List Item) → ItemsRise (xs ++ ys) → ItemsRise xs
+rise_left [] ys h = tt
+rise_left (x ∷ []) ys h = tt
+rise_left (x ∷ y ∷ xs) ys h = (h.0, rise_left (y ∷ xs) ys h.1)
+
 -- a key is above all in front of it
 pub rise_before : (xs : List Item) (y : Item) (ys : List Item) → ItemsRise (xs ++ y ∷ ys) → AreBelow y.0 xs
 rise_before [] y ys h = All-nil (λ (item : Item). KeyBelow item.0 y.0)

@@ -1,10 +1,11 @@
 -- Items found by their keys in a list that rises.
-use Rattle.std.proofs.Common.{◌≡◌, ◌≢◌, ℕ, Bool, true, false, not, List, [], ◌∷◌, ◌++◌, refl, ap, ◌∙◌, sym, subst, Option, Some, None, if◌then◌else◌}
+use Rattle.std.proofs.Common.{arith, ◌≡◌, ◌≢◌, ℕ, Bool, true, false, not, List, [], ◌∷◌, ◌++◌, refl, ap, ◌∙◌, sym, subst, Option, Some, None, if◌then◌else◌}
 use Rattle.std.specs.Prelude.{All, filter}
 use Rattle.std.specs.Ordering.{is_eq}
 use Rattle.std.specs.declared.cmp.Ordering.{Ordering}
 use Rattle.std.specs.declared.cmp.Ordering.TheVariants.{Less, Equal, Greater}
 use Rattle.std.proofs.lemmas.Bool.{false_from_ne_true}
+use Rattle.std.proofs.lemmas.Bool.Decides.{nat_tests}
 use Rattle.std.proofs.lemmas.List.Elements.{All-nil, All-cons, All-head, All-tail, All-weaker, filter-append}
 use Rattle.blk_base.specs.declared.key.Key.{Key}
 use Rattle.blk_base.specs.Keys.{KeyBelow, key_below, key_cmp}
@@ -51,7 +52,7 @@ under_none key (x ∷ xs) h =
     ap (λ (b : Bool). if b then Some x.1 else data_under key xs) other ∙ under_none key xs (All-tail (λ (item : Item). has_key key item ≡ false) x xs h)
 
 cmp_self : (key : Key) → key_cmp key key ≡ Equal
-cmp_self key = ?
+cmp_self key = grind (arith, nat_tests)
 
 pub has_key_itself : (item : Item) → has_key item.0 item ≡ true
 has_key_itself item = ap is_eq (cmp_self item.0)

@@ -1,3 +1,4 @@
 pub mod Shape
 pub mod Between
 pub mod Path
+pub mod Spot

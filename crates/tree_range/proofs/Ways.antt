@@ -1,5 +1,5 @@
 -- A step down a tree keeps to the way to the leaf where a key belongs.
-use Rattle.std.proofs.Common.{◌≡◌, ℕ, zero, suc, Bool, true, false, List, [], ◌∷◌, ◌++◌, length, refl, ap, ◌∙◌, sym, subst, Option, Some, None, ◌⊎◌, inl, inr, append_assoc}
+use Rattle.std.proofs.Common.{arith, Ok, ◌-◌, ◌<◌, ◌≤◌, ◌≡◌, ℕ, zero, suc, Bool, true, false, List, [], ◌∷◌, ◌++◌, length, refl, ap, ◌∙◌, sym, subst, Option, Some, None, ◌⊎◌, inl, inr, append_assoc}
 use Rattle.std.specs.Prelude.{All}
 use Rattle.std.specs.List.{flat_map}
 use Rattle.std.proofs.lemmas.List.{append-nil}
@@ -7,14 +7,16 @@ use Rattle.std.proofs.lemmas.List.Elements.{All-nil, All-head, All-tail, All-sam
 use Rattle.std.proofs.lemmas.List.Concat.{flat_map-append}
 use Rattle.blk_base.specs.declared.key.Key.{Key}
 use Rattle.blk_base.specs.Keys.{KeyBelow}
-use Rattle.blk_base.specs.Leaf.{Item, Pointer}
+use Rattle.blk_base.specs.Leaf.{Item, Pointer, node_body_of}
 use Rattle.block_table.specs.declared.tree.Tree.{Tree}
 use Rattle.block_table.specs.Table.{Table}
-use Rattle.block_table.specs.TreeIn.{ItemsRise, first_key}
+use Rattle.block_table.specs.TreeIn.{ItemsRise, block_at, first_key}
 use Rattle.leaf_view.specs.KeyOrder.{KeyBelow_trans}
 use Rattle.tree_range.specs.Shape.{IsSubtree, IsTree, items_below, reach_below, node_pointers, tree_items, tree_reach}
 use Rattle.tree_range.specs.Between.{AreBelow, AreAbove}
 use Rattle.tree_range.specs.Path.{IsChild, IsChildPlace, IsPath, key_behind}
+use Rattle.leaf_view.proofs.NodeLaws.{node_body_means}
+use Rattle.tree_range.proofs.Bodies.{node_pointers_are}
 use Rattle.tree_range.proofs.Law.{Child}
 use Rattle.tree_range.proofs.Rise.{All-left, All-right, HasFirst, first_is, first_append, above_from_first, rise_before, rise_head, rise_right}
 
@@ -123,3 +125,14 @@ step table tree level key at next child behind is_tree path is_child =
       reach = path.reach ∙ ap (λ (l : List ℕ). path.reach_before ++ ((at ∷ l) ++ path.reach_after)) (cut g pointers c.lefts c.pointer c.rights c.split) ∙ regroup path.reach_before (at ∷ flat_map g c.lefts) (g c.pointer) (flat_map g c.rights) path.reach_after;
     } in
     subst (λ (a : ℕ). IsPath table tree level key a behind) (sym is_child.at_is) (subst (λ (k : Option Key). IsPath table tree level key c.pointer.at k) (sym is_child.behind_is) made)
+
+-- the same where the node is read from the bytes of its block
+pub stepped : (table : Table) (tree : Tree) (level : ℕ) (key : Key) (at : ℕ) (next : Option Key) (child : ℕ) (behind : Option Key) (bytes : List ℕ) (pointers : List Pointer) → IsTree table tree → IsPath table tree level key at next → 0 < level
+    → bytes ≡ (block_at table at).bytes → node_body_of bytes ≡ Ok pointers → IsChild pointers key next child behind → IsPath table tree (level - 1) key child behind
+stepped table tree level key at next child behind bytes pointers is_tree path high bytes_are body is_child =
+    let one : level ≡ suc (level - 1) = omega arith in
+    let same : node_pointers table at ≡ pointers = node_pointers_are table at pointers (subst (λ (b : List ℕ). node_body_of b ≡ Ok pointers) bytes_are body) in
+    step table tree (level - 1) key at next child behind is_tree (subst (λ (n : ℕ). IsPath table tree n key at next) one path) (subst (λ (l : List Pointer). IsChild l key next child behind) (sym same) is_child)
+
+pub least_of : (bytes : List ℕ) (pointers : List Pointer) → node_body_of bytes ≡ Ok pointers → 1 ≤ length pointers
+least_of bytes pointers body = (node_body_means bytes pointers body).least
