@@ -9,3 +9,4 @@ mod Children
 mod Found
 mod Spots
 mod Looked
+mod Walked

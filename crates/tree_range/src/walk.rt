@@ -1,5 +1,6 @@
 ghost use Rattle.std.specs.Prelude.{◌≡◌, List};
 ghost use Rattle.std.specs.Iterator.{YieldsFirstBy, item_count};
+ghost use Rattle.blk_base.specs.Keys.{key_below};
 ghost use Rattle.tree_range.specs.Shape.{IsTree, tree_items};
 ghost use Rattle.tree_range.specs.Between.{item_view, items_between};
 
@@ -67,7 +68,7 @@ impl<'t> Iterator for Range<'t> {
         let spot = item_spot(self.table, &self.tree, self.spot)?;
         let leaf = LeafView::of_body(self.table.block(spot.leaf));
         let key = leaf.key(spot.place);
-        if self.last < key {
+        if is_above(&key, &self.last) {
             return None;
         }
         self.spot = Spot {
@@ -76,4 +77,11 @@ impl<'t> Iterator for Range<'t> {
         };
         Some((key, leaf.data(spot.place)))
     }
+}
+
+/// Whether a key is above the last one.
+fn is_above(key: &Key, last: &Key) -> bool
+    ensures { result ≡ key_below last.now key.now }
+{
+    last < key
 }
