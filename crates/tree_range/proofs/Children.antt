@@ -78,7 +78,7 @@ key_behind_past (p ∷ ps) (suc place) next h = key_behind_past ps place next (o
 abbrev pub child_of : Pointer → ℕ × ℕ
 child_of pointer = (pointer.at, pointer.generation)
 
-first_of : (a b x y : ℕ) → ◌≡◌ {A = Option (ℕ × ℕ)} (Some (a, b)) (Some (x, y)) → x ≡ a
+pub first_of : (a b x y : ℕ) → ◌≡◌ {A = Option (ℕ × ℕ)} (Some (a, b)) (Some (x, y)) → x ≡ a
 first_of a b x y h = let same = same_Some (a, b) (x, y) h in sym (ap (λ (pair : ℕ × ℕ). pair.0) same)
 
 pub is_child : (pointers : List Pointer) (key : Key) (next : Option Key) (place at generation : ℕ) (behind : Option Key) → IsChildPlace pointers key place → slice_get (children_of pointers) place ≡ Some (at, generation) → behind ≡ key_behind (drop (place + 1) pointers) next

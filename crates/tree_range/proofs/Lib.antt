@@ -10,3 +10,5 @@ mod Found
 mod Spots
 mod Looked
 mod Walked
+mod Parts
+mod Times

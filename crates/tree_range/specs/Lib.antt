@@ -2,3 +2,4 @@ pub mod Shape
 pub mod Between
 pub mod Path
 pub mod Spot
+pub mod Part

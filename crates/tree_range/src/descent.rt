@@ -26,7 +26,7 @@ fn child_place(node: &NodeView<'_>, key: &Key) -> usize
 }
 
 /// The first key of the child behind this one, or `next` where this is the last.
-fn key_after(node: &NodeView<'_>, place: usize, next: Option<Key>) -> Option<Key>
+pub(crate) fn key_after(node: &NodeView<'_>, place: usize, next: Option<Key>) -> Option<Key>
     requires { place < length node.now }
     ensures { result ≡ key_behind (drop (place + 1) node.now) next }
 {

@@ -7,6 +7,7 @@
 //! that this is the relation of `block_table`, and that it depends on the blocks that the tree reaches alone.
 #![tactic(auto)]
 
+mod check;
 mod descent;
 pub mod laws;
 mod search;
@@ -15,5 +16,6 @@ mod spot;
 mod tests;
 mod walk;
 
+pub use check::is_tree;
 pub use search::{get, leaf_at, range};
 pub use walk::Range;

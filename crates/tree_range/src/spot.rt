@@ -14,11 +14,11 @@ use leaf_view::LeafView;
 
 /// A place of an item in a leaf, from 0, or the leaf's end: the leaf's byte address, and the first key behind it in the
 /// tree, where there is one (own).
-#[derive(Clone, Copy, Debug)]
-pub struct Spot {
-    pub leaf: Addr,
-    pub place: usize,
-    pub next: Option<Key>,
+#[derive(Clone, Copy)]
+pub(crate) struct Spot {
+    pub(crate) leaf: Addr,
+    pub(crate) place: usize,
+    pub(crate) next: Option<Key>,
 }
 
 /// The place of the first item of a leaf whose key isn't below a key; the leaf's end where there is none.
