@@ -1,0 +1,5 @@
+//! Whether a flat subvolume is coherent, decided without memory.
+#![tactic(auto)]
+
+mod names;
+mod ways;
