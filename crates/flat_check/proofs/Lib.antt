@@ -1,2 +1,3 @@
 mod Views
 mod Steps
+mod Fitting

@@ -1,8 +1,11 @@
 -- Facts on names as the code keeps them, beside the names as they are seen.
-use Rattle.std.proofs.Common.{◌≡◌, ℕ, zero, suc, ◌≤◌, Bool, true, false, cond, ◌&&◌, List, [], ◌∷◌, length, get_or, count_by, Some, None, refl, sym, ap, ◌∙◌, arith}
+use Rattle.std.proofs.Common.{◌≡◌, ℕ, zero, suc, ◌≤◌, ◌<◌, ◌+◌, Bool, true, false, cond, ◌&&◌, List, [], ◌∷◌, length, get_or, count_by, Some, None, refl, sym, ap, subst, ◌∙◌, arith, inl, inr}
 use Rattle.std.specs.Bool.{nat_eq, nat_le}
 use Rattle.std.specs.Str.{bytes_eq}
-use Rattle.std.specs.List.{filter, find, position}
+use Rattle.std.specs.List.{filter, find, position, Contains, AllWithin, HoldsAt}
+use Rattle.std.proofs.lemmas.Bool.{cases_lt}
+use Rattle.std.proofs.lemmas.List.Elements.{at_read}
+use Rattle.flat_model.proofs.Lists.{contains_head, contains_tail, contains_none, contains_cases}
 use Rattle.flat_model.specs.declared.view.NameAt.{NameAt}
 use Rattle.flat_model.specs.Names.{FlatName, leads_to, is_in_slot}
 use Rattle.flat_record.proofs.Tables.{FirstAt, NonePasses, position_first, position_none}
@@ -46,3 +49,37 @@ module _ (one : NameAt) (ats : List NameAt) (nears : List Bool) (marked : length
 
   pub index_count : length (filter (is_at_index one.dir.0 one.index) (names_view ats nears)) ≡ count_by (λ (at : NameAt). nat_eq at.dir.0 one.dir.0 && nat_eq at.index one.index) ats
   index_count = count_view (λ (at : NameAt). nat_eq at.dir.0 one.dir.0 && nat_eq at.index one.index) (is_at_index one.dir.0 one.index) (λ at near. refl) ats nears marked
+
+-- ---- what holds of each element before a place
+
+pub all_more : {X : Type 0} (P : X → Type 0) (xs : List X) (k : ℕ) (x : X) → k < length xs → x ≡ get_or xs k x → P x → AllWithin P xs 0 k → AllWithin P xs 0 (k + 1)
+all_more P xs k x below is here all j d low high =
+    elim (cases_lt j k) [
+      | inl before ↦ all j d low before
+      | inr above ↦ let same : k ≡ j = omega arith in subst (λ n. P (get_or xs n d)) same (at_read xs P k x below is here d)
+    ]
+
+-- ---- what holds of each name
+
+module _ (P : FlatName → Type 0) where
+  abbrev pub Holds : NameAt → Type 0
+  Holds at = (near : Bool) → P (name_view at near)
+
+  abbrev pub Fails : NameAt → Type 0
+  Fails at = (near : Bool) → P (name_view at near) → ⊥
+
+  pub each_holds : (ats : List NameAt) (nears : List Bool) → length nears ≡ length ats → AllWithin Holds ats 0 (length ats) → (name : FlatName) → Contains (names_view ats nears) name → P name
+  each_holds [] nears same all name c = absurd (contains_none name c)
+  each_holds (at ∷ ats) [] same all name c = absurd (contains_none name c)
+  each_holds (at ∷ ats) (near ∷ nears) same all name c =
+      elim (contains_cases (name_view at near) (names_view ats nears) name c) [
+        | inl is ↦ subst P is (all 0 at (omega arith) (omega arith) near)
+        | inr later ↦ each_holds ats nears (omega arith) (λ k d low high. all (suc k) d (omega arith) (omega arith)) name later
+      ]
+
+  pub one_fails : (ats : List NameAt) (nears : List Bool) (k : ℕ) → length nears ≡ length ats → k < length ats → HoldsAt Fails ats k → ((name : FlatName) → Contains (names_view ats nears) name → P name) → ⊥
+  one_fails [] nears k same below fails each = omega arith
+  one_fails (at ∷ ats) [] k same below fails each = omega arith
+  one_fails (at ∷ ats) (near ∷ nears) zero same below fails each = fails at near (each (name_view at near) (contains_head (name_view at near) (names_view ats nears)))
+  one_fails (at ∷ ats) (near ∷ nears) (suc k) same below fails each =
+      one_fails ats nears k (omega arith) (omega arith) fails (λ name c. each name (contains_tail (name_view at near) (names_view ats nears) name c))

@@ -1,5 +1,6 @@
 //! Whether a flat subvolume is coherent, decided without memory.
 #![tactic(auto)]
 
+mod items;
 mod names;
 mod ways;

@@ -1,9 +1,10 @@
 //! Whether each name is right among the names and inodes of its subvolume.
-ghost use Rattle.std.specs.Prelude.{◌≡◌, ◌↔◌, ◌&&◌, ℕ, Bool, List, IsTrue, count_by, nat_eq, bytes_eq};
+ghost use Rattle.std.specs.Prelude.{◌≡◌, ◌↔◌, ◌&&◌, ℕ, Bool, List, Contains, IsTrue, count_by, nat_eq, bytes_eq};
 ghost use Rattle.flat_model.specs.Names.{FlatName};
 ghost use Rattle.flat_sub.specs.View.{name_view, sub_view, IsWellKept};
 ghost use Rattle.flat_check.specs.Parts.{IsPlaced, IsAlone, HasItemsThatFit, IsRightName};
 
+use crate::items::has_items_that_fit;
 use flat_model::NameAt;
 use flat_sub::FlatSub;
 
@@ -49,4 +50,25 @@ fn is_alone(sub: &FlatSub, name: &NameAt) -> bool
     ensures { (near : Bool) → (IsTrue result ↔ IsAlone (sub_view sub.now).sub.names (name_view name.now near)) }
 {
     count_in_slot(&sub.names, name) <= 1 && count_at_index(&sub.names, name) <= 1
+}
+
+/// Whether a name is right among the names and inodes of its subvolume.
+fn is_right(sub: &FlatSub, name: &NameAt) -> bool
+    requires { IsWellKept sub.now }
+    ensures { (near : Bool) → (IsTrue result ↔ IsRightName (sub_view sub.now).sub (name_view name.now near)) }
+{
+    is_placed(sub, name) && is_alone(sub, name) && has_items_that_fit(sub, name)
+}
+
+/// Whether each name of a subvolume is right among its names and inodes.
+pub(crate) fn names_are_right(sub: &FlatSub) -> bool
+    requires { IsWellKept sub.now }
+    ensures { IsTrue result ↔ ((name : FlatName) → Contains (sub_view sub.now).sub.names name → IsRightName (sub_view sub.now).sub name) }
+{
+    for name in &sub.names {
+        if !is_right(sub, name) {
+            return false;
+        }
+    }
+    true
 }
