@@ -1,3 +1,4 @@
 mod Views
 mod Steps
 mod Fitting
+mod Coherence
