@@ -1,18 +1,29 @@
 -- Facts on lists of entries by number, and the maps that they stand for.
-use Rattle.std.proofs.Common.{◌≡◌, ℕ, zero, suc, ◌<◌, Bool, true, false, cond, List, [], ◌∷◌, ◌++◌, set, length, get_or, Option, Some, None, refl, sym, ap, ◌∙◌, arith}
-use Rattle.std.specs.Bool.{◌==◌, nat_lt}
+use Rattle.std.proofs.Common.{◌≡◌, ◌≢◌, ℕ, zero, suc, ◌<◌, ◌≤◌, ◌+◌, inl, inr, subst, T, Bool, true, false, cond, List, [], ◌∷◌, ◌++◌, set, length, get_or, Option, Some, None, refl, sym, ap, ◌∙◌, arith}
+use Rattle.std.specs.Bool.{◌==◌, nat_lt, nat_le}
 use Rattle.std.proofs.Common.{not}
 use Rattle.std.specs.Option.{option_map}
 use Rattle.std.proofs.Common.{map}
-use Rattle.std.specs.Ordering.{nat_cmp, eq_by_cmp}
-use Rattle.std.specs.Cmp.{nat_cmp_total, unsigned_tied}
+use Rattle.std.specs.declared.cmp.Ordering.{Ordering}
+use Rattle.std.specs.declared.cmp.Ordering.TheVariants.{Less, Equal, Greater}
+use Rattle.std.specs.Ordering.{nat_cmp, eq_by_cmp, is_lt, MatchOrdering}
+use Rattle.std.specs.Cmp.{IsTotalOrder, nat_cmp_total, unsigned_tied, nat_cmp_is}
 use Rattle.std.specs.List.{position, position_or_len, filter}
-use Rattle.std.specs.FinMap.{get, insert, remove, from_entries, get-from_entries, get-insert, get-remove, same_map, nat_cmp-IsAntisymmetric, from_entries_push}
-use Rattle.std.specs.FinMap.Entries.{find}
-use Rattle.std.proofs.lemmas.Bool.{eqb-true, eqb-false, ne_eqb, eq-eqb, ltb-false}
+use Rattle.std.specs.List as list
+use Rattle.std.specs.FinMap.{get, insert, remove, entries, empty, len-entries, len-empty, from_entries, get-from_entries, get-insert, get-remove, entries-insert, same_map, nat_cmp-IsAntisymmetric, from_entries_push}
+use Rattle.std.specs.FinMap.Entries.{find, put, by_order, below_all, is_sorted, is_sorted-put, is_sorted-where_key, find-put}
+use Rattle.std.proofs.lemmas.Bool.{eqb-true, eqb-false, ne_eqb, eq-eqb, ltb-true, ltb-false, le-leb, lt-leb, and_parts, cases_lt, cases_order, true≢false}
 use Rattle.std.proofs.lemmas.List.Quantifiers.{position-Some}
 use Rattle.std.proofs.lemmas.List.Sums.{fails_before_first}
-use Rattle.flat_model.proofs.Maps.{some_none}
+use Rattle.flat_model.proofs.Maps.{some_none, some_same, no_length}
+
+is_less : (r : Ordering) → is_lt r ≡ true → r ≡ Less
+is_less Less e = refl
+is_less Equal e = absurd (true≢false (sym e))
+is_less Greater e = absurd (true≢false (sym e))
+
+no_entries : {K : Type 0} (X : Type 0) (R : K → K → Ordering) → entries (empty {X = X} {R = R}) ≡ []
+no_entries X R = no_length _ (sym (len-entries (empty {X = X} {R = R})) ∙ len-empty R X)
 
 -- the element at this place is the first that passes
 abbrev pub FirstAt : {X : Type 0} → (X → Bool) → List X → ℕ → Type 0
@@ -73,7 +84,7 @@ module _ {X : Type 0} (key : ℕ) where
   find_first (first ∷ es) (suc i) d at =
       ap (λ b. cond b (Some first.1) (find nat_cmp key es)) (unsigned_tied key first.0 ∙ ne_eqb key first.0 (λ same. eqb-false first.0 key at.0 (sym same))) ∙ find_first es i d at.1
 
-  find_set : (value : X) (es : List (ℕ × X)) (i : ℕ) (q : ℕ) → FirstAt (λ (e : ℕ × X). e.0 == key) es i → find nat_cmp q (set es i (key, value)) ≡ cond (eq_by_cmp nat_cmp q key) (Some value) (find nat_cmp q es)
+  pub find_set : (value : X) (es : List (ℕ × X)) (i : ℕ) (q : ℕ) → FirstAt (λ (e : ℕ × X). e.0 == key) es i → find nat_cmp q (set es i (key, value)) ≡ cond (eq_by_cmp nat_cmp q key) (Some value) (find nat_cmp q es)
   find_set value [] i q at = absurd at
   find_set value (first ∷ es) zero q at =
       shadow (eq_by_cmp nat_cmp q key) (Some value) (Some first.1) (find nat_cmp q es)
@@ -133,3 +144,111 @@ pub remove_seen : {X Y : Type 0} (f : X → Y) (new old : List (ℕ × X)) (key 
 remove_seen f new old key is = same_map nat_cmp_total nat_cmp-IsAntisymmetric _ _ (λ q.
     get_seen f new q ∙ ap (λ m. option_map f (get m q)) is ∙ ap (option_map f) (get-remove nat_cmp_total _ key q) ∙ seen_none f (eq_by_cmp nat_cmp q key) _
     ∙ sym (get-remove nat_cmp_total _ key q ∙ ap (cond (eq_by_cmp nat_cmp q key) None) (get_seen f old q)))
+
+-- ---- an entry put in its place, in rising order
+
+-- the test as a fact, and back
+pub is_true : (b : Bool) → T b → b ≡ true
+is_true true p = refl
+is_true false p = absurd p
+
+pub holds : (b : Bool) → b ≡ true → T b
+holds b e = subst T (sym e) tt
+
+-- a position is the place before which nothing passes
+pub position_place : {X : Type 0} (p : X → Bool) (xs : List X) (i : ℕ) → Some i ≡ position p xs → (i < length xs) × (i ≡ position_or_len p xs)
+position_place p xs i e =
+    elim (nat_lt (position_or_len p xs) (length xs)) as (λ b. nat_lt (position_or_len p xs) (length xs) ≡ b → Some i ≡ cond b (Some (position_or_len p xs)) None → (i < length xs) × (i ≡ position_or_len p xs)) [
+      | true ↦ λ t s. let same = some_same i _ s in (omega (arith, same, ltb-true _ _ t), same)
+      | false ↦ λ f s. absurd (some_none i s)
+    ] refl e
+
+pub position_past : {X : Type 0} (p : X → Bool) (xs : List X) → None ≡ position p xs → length xs ≤ position_or_len p xs
+position_past p xs e =
+    elim (nat_lt (position_or_len p xs) (length xs)) as (λ b. nat_lt (position_or_len p xs) (length xs) ≡ b → None ≡ cond b (Some (position_or_len p xs)) None → length xs ≤ position_or_len p xs) [
+      | true ↦ λ t s. absurd (some_none _ (sym s))
+      | false ↦ λ f s. ltb-false _ _ f
+    ] refl e
+
+-- the place at which an entry of a number stands, or would stand
+abbrev pub place_for : {X : Type 0} → ℕ → List (ℕ × X) → ℕ
+place_for key es = position_or_len (λ e. nat_le key e.0) es
+
+module _ {X : Type 0} (key : ℕ) (value : X) where
+  place_here : (e : ℕ × X) (es : List (ℕ × X)) → key ≤ e.0 → place_for key (e ∷ es) ≡ 0
+  place_here e es low = ap (λ b. cond (not b) (1 + place_for key es) 0) (le-leb key e.0 low)
+
+  place_later : (e : ℕ × X) (es : List (ℕ × X)) → e.0 < key → place_for key (e ∷ es) ≡ 1 + place_for key es
+  place_later e es high = ap (λ b. cond (not b) (1 + place_for key es) 0) (lt-leb key e.0 high)
+
+  put_by : (e : ℕ × X) (es : List (ℕ × X)) (r : Ordering) → MatchOrdering r (key < e.0) (key ≡ e.0) (e.0 < key) → put nat_cmp key value (e ∷ es) ≡ by_order r ((key, value) ∷ e ∷ es) ((e.0, value) ∷ es) (e ∷ put nat_cmp key value es)
+  put_by e es r is = ap (λ r. by_order r ((key, value) ∷ e ∷ es) ((e.0, value) ∷ es) (e ∷ put nat_cmp key value es)) (sym (nat_cmp_is key e.0 r is))
+
+  -- in place of the entry of the same number
+  pub put_set : (es : List (ℕ × X)) (i : ℕ) (d : ℕ × X) → i ≡ place_for key es → i < length es → (get_or es i d).0 ≡ key → put nat_cmp key value es ≡ set es i (key, value)
+  put_set [] i d is below same = absurd (omega arith)
+  put_set (e ∷ es) i d is below same =
+      elim (cases_order key e.0) [
+        | inl equal ↦
+            let first : i ≡ 0 = is ∙ place_here e es (omega (arith, equal)) in
+            put_by e es Equal equal ∙ ap (λ k. (k, value) ∷ es) (sym equal) ∙ sym (ap (λ n. set (e ∷ es) n (key, value)) first)
+        | inr (inl less) ↦
+            let first : i ≡ 0 = is ∙ place_here e es (omega (arith, less)) in
+            let here : e.0 ≡ key = sym (ap (λ n. (get_or (e ∷ es) n d).0) first) ∙ same in
+            absurd (omega (arith, here, less))
+        | inr (inr more) ↦
+            let later : i ≡ suc (place_for key es) = omega (arith, is, place_later e es more) in
+            put_by e es Greater more
+            ∙ ap (λ l. e ∷ l) (put_set es (place_for key es) d refl (omega (arith, later, below)) (sym (ap (λ n. (get_or (e ∷ es) n d).0) later) ∙ same))
+            ∙ sym (ap (λ n. set (e ∷ es) n (key, value)) later)
+      ]
+
+  -- before the first entry of a greater number
+  pub put_insert : (es : List (ℕ × X)) (i : ℕ) (d : ℕ × X) → i ≡ place_for key es → (i < length es → (get_or es i d).0 ≢ key) → put nat_cmp key value es ≡ list.insert es i (key, value)
+  put_insert [] i d is other = sym (ap (λ n. list.insert [] n (key, value)) is)
+  put_insert (e ∷ es) i d is other =
+      elim (cases_order key e.0) [
+        | inl equal ↦
+            let first : i ≡ 0 = is ∙ place_here e es (omega (arith, equal)) in
+            absurd (other (omega (arith, first)) (ap (λ n. (get_or (e ∷ es) n d).0) first ∙ sym equal))
+        | inr (inl less) ↦
+            let first : i ≡ 0 = is ∙ place_here e es (omega (arith, less)) in
+            put_by e es Less less ∙ sym (ap (λ n. list.insert (e ∷ es) n (key, value)) first)
+        | inr (inr more) ↦
+            let later : i ≡ suc (place_for key es) = omega (arith, is, place_later e es more) in
+            put_by e es Greater more
+            ∙ ap (λ l. e ∷ l) (put_insert es (place_for key es) d refl (λ below same. other (omega (arith, later, below)) (ap (λ n. (get_or (e ∷ es) n d).0) later ∙ same)))
+            ∙ sym (ap (λ n. list.insert (e ∷ es) n (key, value)) later)
+      ]
+
+  -- or at the end
+  pub put_push : (es : List (ℕ × X)) → length es ≤ place_for key es → put nat_cmp key value es ≡ es ++ (key, value) ∷ []
+  put_push [] past = refl
+  put_push (e ∷ es) past =
+      elim (cases_lt e.0 key) [
+        | inl more ↦ put_by e es Greater more ∙ ap (λ l. e ∷ l) (put_push es (omega (arith, past, place_later e es more)))
+        | inr low ↦ absurd (omega (arith, past, place_here e es low))
+      ]
+
+  pub map_put : (es : List (ℕ × X)) → from_entries {R = nat_cmp} (put nat_cmp key value es) ≡ insert (from_entries es) key value
+  map_put es = same_map nat_cmp_total nat_cmp-IsAntisymmetric _ _ (λ q.
+      get-from_entries nat_cmp_total _ q ∙ find-put nat_cmp nat_cmp_total q key value es
+      ∙ sym (get-insert nat_cmp_total _ key value q ∙ ap (cond (eq_by_cmp nat_cmp q key) (Some value)) (get-from_entries nat_cmp_total es q)))
+
+  pub rising_put : (es : List (ℕ × X)) → is_sorted nat_cmp es ≡ true → is_sorted nat_cmp (put nat_cmp key value es) ≡ true
+  rising_put es rise = is_true _ (is_sorted-put nat_cmp nat_cmp_total key value es (holds _ rise))
+
+pub rising_drop : {X : Type 0} (key : ℕ) (es : List (ℕ × X)) → is_sorted nat_cmp es ≡ true → is_sorted nat_cmp (filter (λ (e : ℕ × X). not (e.0 == key)) es) ≡ true
+rising_drop key es rise = is_true _ (is_sorted-where_key nat_cmp (λ k. not (k == key)) es (holds _ rise))
+
+-- the entries of a list in rising order are those of its map
+module _ {K X : Type 0} {R : K → K → Ordering} (o : IsTotalOrder R) where
+  put_below : (k : K) (x : X) (es : List (K × X)) → T (below_all R k es) → put R k x es ≡ (k, x) ∷ es
+  put_below k x [] below = refl
+  put_below k x (e ∷ es) below = ap (λ r. by_order r ((k, x) ∷ e ∷ es) ((e.0, x) ∷ es) (e ∷ put R k x es)) (is_less (R k e.0) (and_parts _ _ (is_true _ below)).0)
+
+  pub entries_rising : (es : List (K × X)) → is_sorted R es ≡ true → entries (from_entries {R = R} es) ≡ es
+  entries_rising [] rise = no_entries X R
+  entries_rising (e ∷ es) rise =
+      let parts = and_parts _ _ rise in
+      entries-insert o (from_entries es) e.0 e.1 ∙ ap (put R e.0 e.1) (entries_rising es parts.1) ∙ put_below e.0 e.1 es (holds _ parts.0)

@@ -1,1 +1,2 @@
 pub mod RecordView
+pub mod NewRecord

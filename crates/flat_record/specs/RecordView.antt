@@ -1,12 +1,13 @@
--- How an inode is seen, and what kind of record a new one has.
-use Rattle.std.specs.Prelude.{ℕ, List, map}
-use Rattle.std.specs.FinMap.{from_entries, empty}
-use Rattle.flat_model.specs.declared.view.Kind.{Kind}
-use Rattle.flat_model.specs.declared.view.Kind.TheVariants.{File, Dir, Link}
+-- How an inode's fields are seen, and what holds of them.
+use Rattle.std.specs.Prelude.{◌≡◌, length, map, All, IsTrue}
+use Rattle.std.specs.Ordering.{nat_cmp}
+use Rattle.std.specs.Cmp.Lexicographic.{slice_cmp}
+use Rattle.std.specs.FinMap.{from_entries, is_sorted}
 use Rattle.flat_model.specs.Records.{Attributes, InodeRecord, FileInode, DirInode, LinkInode}
+use Rattle.flat_model.specs.Contents.{block_bytes}
 use Rattle.flat_record.specs.declared.record.Contents.{Contents}
 use Rattle.flat_record.specs.declared.record.Contents.TheVariants as contents
-use Rattle.flat_record.specs.declared.record.Inode.{Inode}
+use Rattle.flat_record.specs.declared.record.Inode.TheInside.{Inside}
 
 -- what an inode's contents make its record
 abbrev pub record_view : Attributes → Contents → InodeRecord
@@ -15,11 +16,16 @@ record_view attributes contents.Dir = DirInode (record { attributes = attributes
 record_view attributes (contents.Link target) = LinkInode (record { attributes = attributes; target = target })
 
 -- the record of an inode
-abbrev pub inode_view : Inode → InodeRecord
+abbrev pub inode_view : Inside → InodeRecord
 inode_view inode = record_view (from_entries inode.attributes.items) inode.contents
 
--- a record of this kind without attributes and blocks; the size counts for a file alone, the target for a symlink alone
-abbrev pub record_of_kind : Kind → ℕ → List ℕ → InodeRecord
-record_of_kind File size target = FileInode (record { attributes = empty; size = size; blocks = empty })
-record_of_kind Dir size target = DirInode (record { attributes = empty })
-record_of_kind Link size target = LinkInode (record { attributes = empty; target = target })
+-- a file's blocks rise by their numbers, and each has 4096 bytes
+abbrev pub AreBlocksInOrder : Contents → Type 0
+AreBlocksInOrder (contents.File size blocks) = IsTrue (is_sorted nat_cmp blocks.items) × All (λ e. length e.1.items ≡ block_bytes) blocks.items
+AreBlocksInOrder contents.Dir = Unit {0}
+AreBlocksInOrder (contents.Link target) = Unit {0}
+
+-- the attributes rise by their names, and a file's blocks by their numbers
+pub record IsInOrder (inode : Inside) : Type 0 where
+  pub attributes_rise : IsTrue (is_sorted (slice_cmp nat_cmp) inode.attributes.items)
+  pub blocks_in_order : AreBlocksInOrder inode.contents

@@ -4,5 +4,5 @@
 mod record;
 mod table;
 
-pub use record::{Contents, Inode};
+pub use record::Inode;
 pub use table::{drop_entries, place_of, put_entry};

@@ -1,3 +1,4 @@
+pub mod Marks
 pub mod Placed
 pub mod Walks
 pub mod Removals

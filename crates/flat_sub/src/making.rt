@@ -2,7 +2,6 @@
 ghost use Rattle.std.specs.Prelude.{◌≡◌, ◌<◌, ◌+◌, ◌^◌, ℕ, List, length, vec_len, vec_capacity, IfOk, OnErr, None};
 ghost use Rattle.flat_model.specs.Walk.{WalkEnd, AtSlot, bytes_of, walk};
 ghost use Rattle.flat_model.specs.Operations.{make, link, inos_are_spent, indexes_are_spent};
-ghost use Rattle.flat_record.specs.RecordView.{inode_view};
 ghost use Rattle.flat_sub.specs.View.{sub_view, IsWellKept};
 ghost use Rattle.flat_sub.specs.Lists.{list_view, IsList, settled, last_of};
 ghost use Rattle.flat_sub.specs.Ends.{IsEnd, ComesTo, taken_answer};
@@ -51,7 +50,7 @@ impl FlatSub {
         requires list { IsList list }
         requires room { vec_len self.old.dir_indexes < vec_capacity self.old.dir_indexes }
         ensures view { sub_view self.new ≡ settled (sub_view self.old) (list_view list) dir index }
-        ensures kept { IsWellKept self.new }
+        ensures kept { IsWellKept self.old → IsWellKept self.new }
     {
         let greatest = last_index_of(&self.dir_indexes, dir).max(index);
         put_entry(&mut self.dir_indexes, dir, greatest);
@@ -70,7 +69,7 @@ impl FlatSub {
     ) -> Result<Answer, OutOfMemory>
         requires kept { IsWellKept self.old }
         requires free { walk (sub_view self.old).sub path.now ≡ AtSlot dir (bytes_of (walk (sub_view self.old).sub path.now)) None }
-        ensures done { IfOk result (ComesTo (make (sub_view self.old) path.now (inode_view inode) (self.old.last_index + 1)) (sub_view self.new)) }
+        ensures done { IfOk result (ComesTo (make (sub_view self.old) path.now inode (self.old.last_index + 1)) (sub_view self.new)) }
         ensures err { OnErr result (sub_view self.new ≡ sub_view self.old) }
         ensures kept { IsWellKept self.new }
     {
@@ -104,7 +103,7 @@ impl FlatSub {
     /// Makes an inode, at a place that isn't taken.
     pub fn make(&mut self, alloc: Global, path: &Path, inode: Inode) -> Result<Answer, OutOfMemory>
         requires { IsWellKept self.old }
-        ensures done { IfOk result (ComesTo (make (sub_view self.old) path.now (inode_view inode) (self.old.last_index + 1)) (sub_view self.new)) }
+        ensures done { IfOk result (ComesTo (make (sub_view self.old) path.now inode (self.old.last_index + 1)) (sub_view self.new)) }
         ensures err { OnErr result (sub_view self.new ≡ sub_view self.old) }
         ensures kept { IsWellKept self.new }
     {

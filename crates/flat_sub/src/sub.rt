@@ -1,15 +1,14 @@
 //! A subvolume of a flat volume.
 ghost use Rattle.std.specs.Prelude.{◌≡◌, ◌<◌, ◌≤◌, ◌+◌, ◌^◌, ℕ, List, [], IsTrue, ◌↔◌, OnOk, OnErr, IfOk, vec_len, vec_capacity, unwrap_or};
-ghost use Rattle.flat_record.specs.RecordView.{inode_view};
 ghost use Rattle.flat_sub.specs.View.{name_view, names_view, sub_view, IsWellKept};
 ghost use Rattle.flat_model.specs.Names.{name_cmp, add_name};
 ghost use Rattle.std.specs.FinMap.{get, from_entries};
 ghost use Rattle.std.specs.Ordering.{nat_cmp};
 ghost use Rattle.flat_sub.specs.Building.{bare_run, with_inode, with_name, place_in, has_name};
 
-use blk_base::OutOfMemory;
-use flat_model::NameAt;
-use flat_record::{Contents, Inode, place_of, put_entry};
+use blk_base::{OutOfMemory, Text};
+use flat_model::{Kind, NameAt};
+use flat_record::{Inode, place_of, put_entry};
 use std::alloc::Global;
 use std::cmp::Ordering;
 
@@ -39,7 +38,12 @@ pub(crate) fn compare(one: &NameAt, one_near: bool, two: &NameAt, two_near: bool
 }
 
 /// Where a name with its mark stands among others in order, or would stand, and whether it stands there.
-pub(crate) fn place_among(at: &NameAt, near: bool, names: &Vec<NameAt>, marks: &Vec<bool>) -> (usize, bool)
+pub(crate) fn place_among(
+    at: &NameAt,
+    near: bool,
+    names: &Vec<NameAt>,
+    marks: &Vec<bool>,
+) -> (usize, bool)
     requires { vec_len marks.now ≡ vec_len names.now }
     ensures place { result.0 ≡ place_in (name_view at.now near) (names_view names.now.items marks.now.items) }
     ensures there { result.1 ≡ has_name (name_view at.now near) (names_view names.now.items marks.now.items) }
@@ -96,11 +100,7 @@ impl FlatSub {
         ensures kept { IfOk result IsWellKept }
     {
         let mut inodes = Vec::new(alloc);
-        let root = Inode {
-            attributes: Vec::new(alloc),
-            contents: Contents::Dir,
-        };
-        inodes.push((256, root))?;
+        inodes.push((256, Inode::new(alloc, Kind::Dir, 0, Text::repeat(0, 0))))?;
         Ok(FlatSub {
             inodes,
             names: Vec::new(alloc),
@@ -132,7 +132,7 @@ impl FlatSub {
 
     /// Adds an inode; its number counts as one that the subvolume has had.
     pub fn add_inode(&mut self, ino: u64, inode: Inode) -> Result<(), OutOfMemory>
-        ensures ok { OnOk result (sub_view self.new ≡ with_inode ino (inode_view inode) (sub_view self.old)) }
+        ensures ok { OnOk result (sub_view self.new ≡ with_inode ino inode (sub_view self.old)) }
         ensures err { OnErr result (sub_view self.new ≡ sub_view self.old) }
         ensures kept { IsWellKept self.old → IsWellKept self.new }
     {

@@ -3,7 +3,6 @@ ghost use Rattle.std.specs.Prelude.{◌≡◌, position, is_some, option_map, na
 ghost use Rattle.std.specs.FinMap.{get};
 ghost use Rattle.flat_model.specs.Records.{kind_of};
 ghost use Rattle.flat_model.specs.Volume.{is_dir_at, is_dir_there, is_other_there};
-ghost use Rattle.flat_record.specs.RecordView.{inode_view};
 ghost use Rattle.flat_sub.specs.View.{sub_view, IsWellKept};
 ghost use Rattle.flat_model.specs.Walk.{WalkEnd, walk, is_absent, is_blocked, ino_at, record_at};
 ghost use Rattle.flat_model.specs.Names.{FlatName};

@@ -2,20 +2,18 @@ use Rattle.std.proofs.Common.{sym, ap, ◌∙◌, Some}
 use Rattle.std.specs.Option.{option_map}
 use Rattle.std.specs.Cmp.{nat_cmp_total}
 use Rattle.std.specs.FinMap.{get-from_entries}
-use Rattle.flat_record.specs.declared.record.Inode.{Inode}
-use Rattle.flat_model.specs.Records.{kind_of}
-use Rattle.flat_record.specs.RecordView.{inode_view}
-use Rattle.flat_record.proofs.Tables.{get_seen, position_first, position_none, find_first, find_nowhere}
+use Rattle.flat_model.specs.Records.{InodeRecord, kind_of}
+use Rattle.flat_record.proofs.Tables.{position_first, position_none, find_first, find_nowhere}
 use Rattle.flat_sub.proofs.sub.FlatSub.kind.Goals as goal
 
 pub returns-in-Some : goal.returns-in-Some
 returns-in-Some c =
     let entries = c.args.self.now.inodes.items in
-    let there = get_seen inode_view entries c.args.ino ∙ ap (option_map inode_view) (get-from_entries nat_cmp_total entries c.args.ino ∙ find_first c.args.ino entries c.in-Some.at c.index-entry.result.now (position_first _ entries c.in-Some.at (sym c.in-Some.ensures))) in
-    ap Some (c.kind.ensures ∙ ap (λ (e : Prim.Native.Nat.ℕ × Inode). kind_of (inode_view e.1)) c.index-entry.ensures) ∙ sym (ap (option_map kind_of) there)
+    let there = get-from_entries nat_cmp_total entries c.args.ino ∙ find_first c.args.ino entries c.in-Some.at c.index-entry.result.now (position_first _ entries c.in-Some.at (sym c.in-Some.ensures)) in
+    ap Some (c.kind.ensures ∙ ap (λ (e : Prim.Native.Nat.ℕ × InodeRecord). kind_of e.1) c.index-entry.ensures) ∙ sym (ap (option_map kind_of) there)
 
 pub returns-in-None : goal.returns-in-None
 returns-in-None c =
     let entries = c.args.self.now.inodes.items in
-    let there = get_seen inode_view entries c.args.ino ∙ ap (option_map inode_view) (get-from_entries nat_cmp_total entries c.args.ino ∙ find_nowhere c.args.ino entries (position_none _ entries (sym c.in-None.ensures))) in
+    let there = get-from_entries nat_cmp_total entries c.args.ino ∙ find_nowhere c.args.ino entries (position_none _ entries (sym c.in-None.ensures)) in
     sym (ap (option_map kind_of) there)

@@ -5,7 +5,6 @@ use Rattle.flat_model.specs.Names.{FlatName}
 use Rattle.flat_model.specs.Volume.{RunSub}
 use Rattle.flat_model.specs.Walk.{walk}
 use Rattle.flat_model.specs.Operations.{make, make_rows, make_done, new_name, first_answer}
-use Rattle.flat_record.specs.RecordView.{inode_view}
 use Rattle.flat_sub.specs.View.{sub_view}
 use Rattle.flat_sub.proofs.Refusals.{refused}
 use Rattle.flat_sub.proofs.sub.FlatSub.make.Goals as goal
@@ -14,7 +13,7 @@ pub returns-in-Missing-clause-done : goal.returns-in-Missing-clause-done
 unfolding make
 returns-in-Missing-clause-done c =
     let run : RunSub = sub_view c.args.self.now in
-    let inode : InodeRecord = inode_view c.args.inode in
+    let inode : InodeRecord = c.args.inode in
     let place = walk run.sub c.args.path.now in
     let name : FlatName = new_name run.sub.names place (run.marks.last_index + 1) (run.marks.last_ino + 1) in
     refused run (make_rows run place name) (make_done run inode name) NoEnt (ap (λ w. first_answer (make_rows run w name)) c.in-Missing.ensures)
@@ -23,7 +22,7 @@ pub returns-in-Blocked-clause-done : goal.returns-in-Blocked-clause-done
 unfolding make
 returns-in-Blocked-clause-done c =
     let run : RunSub = sub_view c.args.self.now in
-    let inode : InodeRecord = inode_view c.args.inode in
+    let inode : InodeRecord = c.args.inode in
     let place = walk run.sub c.args.path.now in
     let name : FlatName = new_name run.sub.names place (run.marks.last_index + 1) (run.marks.last_ino + 1) in
     refused run (make_rows run place name) (make_done run inode name) NotDir (ap (λ w. first_answer (make_rows run w name)) c.in-Blocked.ensures)
@@ -32,7 +31,7 @@ pub returns-in-Root-clause-done : goal.returns-in-Root-clause-done
 unfolding make
 returns-in-Root-clause-done c =
     let run : RunSub = sub_view c.args.self.now in
-    let inode : InodeRecord = inode_view c.args.inode in
+    let inode : InodeRecord = c.args.inode in
     let place = walk run.sub c.args.path.now in
     let name : FlatName = new_name run.sub.names place (run.marks.last_index + 1) (run.marks.last_ino + 1) in
     refused run (make_rows run place name) (make_done run inode name) Exists (ap (λ w. first_answer (make_rows run w name)) c.in-Root.ensures)
@@ -41,7 +40,7 @@ pub returns-in-Taken-clause-done : goal.returns-in-Taken-clause-done
 unfolding make
 returns-in-Taken-clause-done c =
     let run : RunSub = sub_view c.args.self.now in
-    let inode : InodeRecord = inode_view c.args.inode in
+    let inode : InodeRecord = c.args.inode in
     let place = walk run.sub c.args.path.now in
     let name : FlatName = new_name run.sub.names place (run.marks.last_index + 1) (run.marks.last_ino + 1) in
     refused run (make_rows run place name) (make_done run inode name) Exists (ap (λ w. first_answer (make_rows run w name)) c.in-Taken.ensures.slot)

@@ -22,4 +22,9 @@ returns-clause-kept c =
     record {
       marked = omega (arith, c.remove.ensures.len, c.remove-2.ensures.len, c.requires.kept.marked, c.remove.new.self.ok.0, c.remove-2.new.self.ok.0, before.names.ok.0, before.near.ok.0);
       in_order = ap is_name_set seen ∙ is_name_set_at (names_view before.names.items before.near.items) c.args.at c.requires.kept.in_order;
+      inodes_rise = c.requires.kept.inodes_rise;
+      indexes_rise = c.requires.kept.indexes_rise;
+      covered = c.requires.kept.covered;
+      least = c.requires.kept.least;
+      each_least = c.requires.kept.each_least;
     }

@@ -1,0 +1,4 @@
+pub mod Refusals
+pub mod Crowds
+pub mod Choices
+pub mod Shown

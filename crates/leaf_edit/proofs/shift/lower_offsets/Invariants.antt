@@ -1,0 +1,6 @@
+use Rattle.leaf_edit.specs.Packed.{lowered}
+use Rattle.leaf_edit.specs.Shifts.{HeadersChanged}
+use Rattle.leaf_edit.proofs.shift.lower_offsets.Given as goal
+
+abbrev pub invariant-loop-i : goal.invariant-loop-i
+invariant-loop-i l = HeadersChanged (lowered l.by) l.initial.block l.block l.from l.i
