@@ -1,12 +1,12 @@
 -- A subvolume is coherent exactly where its names are in order, inode 256 is a directory, and each name and each inode is right.
-use Rattle.std.proofs.Common.{◌≡◌, ◌≢◌, ℕ, ◌≤◌, Bool, true, false, ◌&&◌, not, List, [], ◌∷◌, length, Option, Some, None, IsTrue, refl, sym, ap, subst, ◌∙◌, arith, inl, inr, ◌⊎◌}
+use Rattle.std.proofs.Common.{◌≡◌, ℕ, ◌≤◌, Bool, true, ◌&&◌, not, List, [], ◌∷◌, length, Option, Some, None, refl, sym, ap, subst, ◌∙◌, arith}
 use Rattle.std.specs.Bool.{nat_eq}
 use Rattle.std.specs.Option.{is_some}
 use Rattle.std.specs.List.{Contains, filter, sum_by}
 use Rattle.std.specs.FinMap.{get}
 use Rattle.std.proofs.lemmas.Bool.{true≢false, and_parts, and_from, eqb-true, eq-eqb}
 use Rattle.blk_base.specs.Crc.{name_hash_of, extref_hash_of}
-use Rattle.flat_model.specs.Records.{InodeRecord, is_dir_record}
+use Rattle.flat_model.specs.Records.{InodeRecord}
 use Rattle.flat_model.specs.Names.{FlatName, is_name_set, is_in_slot}
 use Rattle.flat_model.specs.Lengths.{most_item_bytes, ref_length, extref_length, entry_length, ref_item_length, extref_item_length, dir_item_length}
 use Rattle.flat_model.specs.Volume.{Subvolume, is_dir_at, is_dir_there}
@@ -15,7 +15,7 @@ use Rattle.flat_model.proofs.Lists.{contains_head, contains_tail, contains_none,
 use Rattle.flat_model.proofs.NameSets.{is_name_set_filter, set_head_once}
 use Rattle.flat_model.proofs.Ways.{one_member, dir_record, is_in_slot_from, is_in_slot_gives}
 use Rattle.flat_model.proofs.Edits.{link_fits}
-use Rattle.flat_check.specs.Parts.{IsPlaced, IsAlone, HasItemsThatFit, IsRightName, IsRightInode, is_at_index}
+use Rattle.flat_check.specs.Parts.{IsAlone, HasItemsThatFit, IsRightName, IsRightInode, is_at_index}
 use Rattle.flat_check.proofs.Steps.{way_from, coherent_reaches}
 
 -- ---- at most one name
@@ -112,12 +112,12 @@ module _ (sub : Subvolume) (in_order : is_name_set sub.names ≡ true) (root : i
     no_index_twice = index_once;
     leads_to_inode = λ name c. some_there (get sub.inodes name.ino) (names name c).placed.leads;
     stands_in_dir = λ name c. (names name c).placed.stands;
-    link_counts = λ ino inode is. (inodes ino inode is).links;
-    ends_at_root = λ dir is_dir. let found = dir_record (get sub.inodes dir) is_dir in way_from sub.names (length sub.names) dir ((inodes dir found.0 found.1).way found.2);
+    link_counts = λ ino inode is. (inodes ino inode is).linked.links;
+    ends_at_root = λ dir is_dir. let found = dir_record (get sub.inodes dir) is_dir in way_from sub.names (length sub.names) dir ((inodes dir found.0 found.1).linked.way found.2);
     limits = λ ino inode is. (inodes ino inode is).limits;
     name_limits = λ name c. (names name c).placed.bytes;
     items_fit = fit;
-    ino_numbers = λ ino inode is. (inodes ino inode is).number;
+    ino_numbers = λ ino inode is. (inodes ino inode is).linked.number;
     index_numbers = λ name c. (names name c).placed.index;
   }
 
@@ -155,9 +155,11 @@ module _ (sub : Subvolume) (coherent : IsCoherent sub) where
 
   pub right_inode : (ino : ℕ) (inode : InodeRecord) → get sub.inodes ino ≡ Some inode → IsRightInode sub.names ino inode
   right_inode ino inode is = record {
-    number = coherent.ino_numbers ino inode is;
-    links = coherent.link_counts ino inode is;
-    way = λ is_dir. coherent_reaches sub coherent ino (ap is_dir_there is ∙ is_dir);
+    linked = record {
+      number = coherent.ino_numbers ino inode is;
+      links = coherent.link_counts ino inode is;
+      way = λ is_dir. coherent_reaches sub coherent ino (ap is_dir_there is ∙ is_dir);
+    };
     limits = coherent.limits ino inode is;
     attributes = coherent.items_fit.attributes ino inode is;
   }

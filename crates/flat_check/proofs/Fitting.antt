@@ -1,6 +1,6 @@
 -- Facts on tests of items' lengths.
-use Rattle.std.proofs.Common.{◌≡◌, ◌↔◌, ◌≤◌, ℕ, Bool, true, false, cond, ◌&&◌, not, List, [], ◌∷◌, IsTrue, refl, sym, ap, subst, ◌∙◌, arith, inl, inr, ◌⊎◌}
-use Rattle.std.specs.Bool.{nat_le, nat_eq}
+use Rattle.std.proofs.Common.{◌≡◌, ◌↔◌, ◌≤◌, ℕ, Bool, List, IsTrue, sym, ap, ◌∙◌, arith}
+use Rattle.std.specs.Bool.{nat_le}
 use Rattle.std.specs.List.{sum_by}
 use Rattle.std.proofs.lemmas.Bool.{leb-true, le-leb}
 use Rattle.blk_base.specs.Crc.{name_hash_of, extref_hash_of}
@@ -11,9 +11,10 @@ use Rattle.flat_sub.specs.Lists.{share_of}
 use Rattle.flat_sub.proofs.Shares.{ref_share, extref_share, entry_share}
 
 within : (sum length : ℕ) (r : Bool) → length ≡ sum → r ≡ nat_le sum most_item_bytes → IsTrue r ↔ (length ≤ most_item_bytes)
-within sum length r is test =
-    (λ yes. let le = leb-true sum most_item_bytes (sym test ∙ yes) in omega (arith, is, le),
-    λ le. test ∙ le-leb sum most_item_bytes (omega (arith, is, le)))
+within sum length r is test = (
+  λ yes. let le = leb-true sum most_item_bytes (sym test ∙ yes) in omega (arith, is, le),
+  λ le. test ∙ le-leb sum most_item_bytes (omega (arith, is, le)),
+)
 
 pub ref_fits : (all : List FlatName) (ino dir : ℕ) (r : Bool) → r ≡ nat_le (sum_by (share_of (items.Ref ino dir)) all) most_item_bytes → IsTrue r ↔ (ref_item_length all ino dir ≤ most_item_bytes)
 ref_fits all ino dir r test = within _ _ r (ref_share all ino dir) test

@@ -2,3 +2,4 @@ mod Views
 mod Steps
 mod Fitting
 mod Coherence
+mod Entries

@@ -1,5 +1,5 @@
 -- Coherence taken apart: what holds of each name and of each inode, and the steps from a directory up to the root directory.
-use Rattle.std.specs.Prelude.{◌≡◌, ◌≢◌, ℕ, zero, suc, ◌≤◌, Bool, ◌&&◌, ◌||◌, List, Option, Some, None, length, filter, find, is_some, IsTrue, nat_eq}
+use Rattle.std.specs.Prelude.{◌≢◌, ℕ, zero, suc, ◌≤◌, Bool, ◌&&◌, ◌||◌, List, Option, Some, None, length, filter, find, is_some, IsTrue, nat_eq}
 use Rattle.std.specs.FinMap.{get}
 use Rattle.blk_base.specs.Crc.{name_hash_of, extref_hash_of}
 use Rattle.flat_model.specs.Records.{InodeRecord, is_dir_record, attributes_of}
@@ -52,11 +52,15 @@ abbrev pub reaches_root : List FlatName → ℕ → ℕ → Bool
 reaches_root names zero dir = nat_eq dir 256
 reaches_root names (suc steps) dir = nat_eq dir 256 || reaches_root names steps (dir_above names dir)
 
--- an inode is right among the names of its subvolume: its number is in its range, it has as many names as its kind allows, from a
--- directory the root directory is reached by as many steps up as there are names, and its record keeps its limits and fits into items
-pub record IsRightInode (names : List FlatName) (ino : ℕ) (inode : InodeRecord) : Type 0 where
+-- an inode stands rightly among the names of its subvolume: its number is in its range, it has as many names as its kind
+-- allows, and from a directory the root directory is reached by as many steps up as there are names ("Objectids", "INODE_ITEM": nlink)
+pub record IsLinked (names : List FlatName) (ino : ℕ) (inode : InodeRecord) : Type 0 where
   pub number : IsInoNumber ino
   pub links : ino ≢ 256 → IsLinkCount inode (links_of names ino)
   pub way : IsTrue (is_dir_record inode) → IsTrue (reaches_root names (length names) ino)
+
+-- an inode is right: among the names of its subvolume, and by its record, which keeps its limits and whose attributes fit into items
+pub record IsRightInode (names : List FlatName) (ino : ℕ) (inode : InodeRecord) : Type 0 where
+  pub linked : IsLinked names ino inode
   pub limits : KeepsLimits inode
   pub attributes : (hash : ℕ) → xattr_item_length (attributes_of inode) hash ≤ most_item_bytes

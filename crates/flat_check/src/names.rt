@@ -5,6 +5,7 @@ ghost use Rattle.flat_sub.specs.View.{name_view, sub_view, IsWellKept};
 ghost use Rattle.flat_check.specs.Parts.{IsPlaced, IsAlone, HasItemsThatFit, IsRightName};
 
 use crate::items::has_items_that_fit;
+use crate::ways::ROOT;
 use flat_model::NameAt;
 use flat_sub::FlatSub;
 
@@ -37,7 +38,7 @@ fn is_placed(sub: &FlatSub, name: &NameAt) -> bool
     ensures { (near : Bool) → (IsTrue result ↔ IsPlaced (sub_view sub.now).sub (name_view name.now near)) }
 {
     let _name = name.name.as_bytes();
-    name.ino.0 != 256
+    name.ino.0 != ROOT
         && name.index >= 2
         && name.index <= GREATEST_INDEX
         && sub.is_dir(name.dir.0)

@@ -6,6 +6,9 @@ ghost use Rattle.flat_check.specs.Parts.{dir_above, reaches_root};
 use flat_model::NameAt;
 use flat_sub::FlatSub;
 
+/// The inode number of the root directory ("Objectids" of the on-disk format).
+pub(crate) const ROOT: u64 = 256;
+
 /// The place of the first name of an inode.
 fn place_of_first(names: &Vec<NameAt>, ino: u64) -> Option<usize>
     ensures { result ≡ position (λ name. nat_eq name.ino.0 ino) names.now.items }
@@ -31,10 +34,10 @@ pub(crate) fn reaches_root(sub: &FlatSub, dir: u64) -> bool
 {
     let mut at = dir;
     for _step in &sub.names {
-        if at == 256 {
+        if at == ROOT {
             return true;
         }
         at = dir_above(sub, at);
     }
-    at == 256
+    at == ROOT
 }

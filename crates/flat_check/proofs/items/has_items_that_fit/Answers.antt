@@ -1,10 +1,7 @@
-use Rattle.std.proofs.Common.{◌≡◌, ◌≤◌, ℕ, List, Bool, true, sym, ap, ◌∙◌}
-use Rattle.std.specs.Bool.{nat_le}
-use Rattle.std.proofs.lemmas.Bool.{true≢false, leb-true, le-leb}
+use Rattle.std.proofs.Common.{List, sym, ◌∙◌}
+use Rattle.std.proofs.lemmas.Bool.{true≢false}
 use Rattle.flat_model.specs.Names.{FlatName}
 use Rattle.flat_model.specs.declared.view.NameAt.{NameAt}
-use Rattle.flat_model.specs.Lengths.{ref_item_length, extref_item_length, dir_item_length}
-use Rattle.blk_base.specs.Crc.{name_hash_of, extref_hash_of}
 use Rattle.flat_sub.specs.View.{names_view}
 use Rattle.flat_check.proofs.Fitting.{ref_fits, extref_fits, entry_fits}
 use Rattle.flat_check.proofs.items.has_items_that_fit.Goals as goal
@@ -26,9 +23,10 @@ returns-then-fits-2 c near =
 pub returns-else-fits-2 : goal.returns-else-fits-2
 returns-else-fits-2 c near =
     let all : List FlatName = names_view c.args.sub.now.names.items c.args.sub.now.near.items in
-    let name : NameAt = c.args.name.now in
-    (λ test. absurd (true≢false (sym test ∙ c.if-fits-2.false)),
-    λ all_fit. elim c.if-fits.branch [
-      | then-fits w ↦ w.value-is ∙ (extref_fits all name.ino.0 name.dir.0 c.extref_hash.result c.as_bytes-bytes.result.now name.name w.fits-then-fits.result c.as_bytes-bytes.ensures.value c.extref_hash.ensures w.fits-then-fits.ensures).1 all_fit.extref
-      | else-fits w ↦ absurd (true≢false (sym ((ref_fits all name.ino.0 name.dir.0 c.fits.result c.fits.ensures).1 all_fit.refs) ∙ w.if-fits.false))
-    ])
+    let name : NameAt = c.args.name.now in (
+      λ test. absurd (true≢false (sym test ∙ c.if-fits-2.false)),
+      λ all_fit. elim c.if-fits.branch [
+        | then-fits w ↦ w.value-is ∙ (extref_fits all name.ino.0 name.dir.0 c.extref_hash.result c.as_bytes-bytes.result.now name.name w.fits-then-fits.result c.as_bytes-bytes.ensures.value c.extref_hash.ensures w.fits-then-fits.ensures).1 all_fit.extref
+        | else-fits w ↦ absurd (true≢false (sym ((ref_fits all name.ino.0 name.dir.0 c.fits.result c.fits.ensures).1 all_fit.refs) ∙ w.if-fits.false))
+      ],
+    )

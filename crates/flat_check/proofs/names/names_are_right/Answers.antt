@@ -1,5 +1,4 @@
-use Rattle.std.proofs.Common.{◌≡◌, ◌<◌, ◌≤◌, ℕ, List, length, get_or, refl, sym, ap, subst, ◌∙◌, arith}
-use Rattle.std.specs.List.{AllWithin}
+use Rattle.std.proofs.Common.{◌≡◌, ◌<◌, ◌≤◌, List, length, get_or, refl, sym, ap, ◌∙◌, arith}
 use Rattle.std.proofs.lemmas.Bool.{true≢false}
 use Rattle.std.proofs.lemmas.List.Elements.{at_read}
 use Rattle.flat_model.specs.declared.view.NameAt.{NameAt}
@@ -17,9 +16,10 @@ returns-then-not-is_right c =
     let name : NameAt = c.name-item.result in
     let below : i < length ats = omega (arith, c.loop-name-test.true, ap length c.deref-name-items.ensures.value) in
     let is : name ≡ get_or ats i name = c.name-item.is ∙ ap (λ (l : List NameAt). get_or l i name) c.deref-name-items.ensures.value in
-    let wrong : Fails Right name = λ near right. true≢false (sym ((c.is_right.ensures near).1 right) ∙ c.if-not-is_right.true) in
-    (λ yes. absurd (true≢false (sym yes)),
-    λ each. absurd (one_fails Right ats c.args.sub.now.near.items i c.requires.marked below (at_read ats (Fails Right) i name below is wrong) each))
+    let wrong : Fails Right name = λ near right. true≢false (sym ((c.is_right.ensures near).1 right) ∙ c.if-not-is_right.true) in (
+      λ yes. absurd (true≢false (sym yes)),
+      λ each. absurd (one_fails Right ats c.args.sub.now.near.items i c.requires.marked below (at_read ats (Fails Right) i name below is wrong) each),
+    )
 
 pub loop-name-preserved : goal.loop-name-preserved
 loop-name-preserved c =
@@ -35,6 +35,7 @@ pub returns : goal.returns
 returns c =
     let ats = c.args.sub.now.names.items in
     let Right : FlatName → Type 0 = IsRightName (sub_view c.args.sub.now).sub in
-    let past : length ats ≤ c.loop-name.name-index = omega (arith, c.loop-name-test.false, ap length c.deref-name-items.ensures.value) in
-    (λ _. each_holds Right ats c.args.sub.now.near.items c.requires.marked (λ k d low high. c.loop-name.invariant k d low (omega (arith, high, past))),
-    λ _. refl)
+    let past : length ats ≤ c.loop-name.name-index = omega (arith, c.loop-name-test.false, ap length c.deref-name-items.ensures.value) in (
+      λ _. each_holds Right ats c.args.sub.now.near.items c.requires.marked (λ k d low high. c.loop-name.invariant k d low (omega (arith, high, past))),
+      λ _. refl,
+    )

@@ -11,7 +11,7 @@ loop-step-preserved c =
     let i = c.loop-step._step-index in
     let long = length_view c.args.sub.now.names.items c.args.sub.now.near.items c.requires.marked in
     let fewer : length names - i ≡ suc (length names - (i + 1)) = omega (arith, long, c.loop-step-test.true, c.deref-step-items.ensures.len) in
-    ap (reaches_root names (length names - (i + 1))) c.dir_above-at.ensures ∙ sym (step_up names (length names - i) (length names - (i + 1)) c.loop-step.at fewer c.if-at-eq256.false) ∙ c.loop-step.invariant
+    ap (reaches_root names (length names - (i + 1))) c.dir_above-at.ensures ∙ sym (step_up names (length names - i) (length names - (i + 1)) c.loop-step.at fewer c.if-at-eq-ROOT.false) ∙ c.loop-step.invariant
 
 pub returns : goal.returns
 returns c =
