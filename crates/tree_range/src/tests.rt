@@ -91,21 +91,25 @@ fn block_of(number: u64) -> Block {
     }
 }
 
-/// Puts the tests' tree into a table, with some bytes changed.
-fn build(rt: &impl Abort, table: &mut BlockTable, changes: &[Change]) {
+/// Puts the tests' tree into a table, with a byte changed.
+fn build(rt: &impl Abort, table: &mut BlockTable, change: Option<Change>) {
     for number in 17..80 {
         let at = Addr(number * 4096);
-        let mut block = block_of(number);
-        for (changed, place, byte) in changes {
-            if *changed == number && *place < 4096 {
-                block[*place] = *byte;
-            }
-        }
         assert!(rt; table.is_allowed(at));
         assert!(rt; table.state(at) == SlotState::Free);
         assert!(rt; table.spare() >= 1);
-        table.stand(at, &block, false);
+        table.stand(at, &changed(block_of(number), number, change), false);
     }
+}
+
+/// The block with a number, with the change of it.
+fn changed(mut block: Block, number: u64, change: Option<Change>) -> Block {
+    if let Some((other, place, byte)) = change {
+        if other == number && place < 4096 {
+            block[place] = byte;
+        }
+    }
+    block
 }
 
 fn byte(found: Option<&[u8]>) -> Option<u8> {
@@ -118,9 +122,13 @@ type Ends = (Option<u8>, Option<u8>, usize);
 fn ends(table: &BlockTable, tree: &Tree, first: &Key, last: &Key) -> Ends
     requires { IsTree table.now tree.now }
 {
-    let mut ends = (None, None, 0);
+    let mut ends = (None, None, 0usize);
     for (_, data) in range(table, tree, first, last) {
-        ends = (ends.0.or(byte(Some(data))), byte(Some(data)), ends.2 + 1);
+        ends = (
+            ends.0.or(byte(Some(data))),
+            byte(Some(data)),
+            ends.2.wrapping_add(1),
+        );
     }
     ends
 }
@@ -129,7 +137,7 @@ fn ends(table: &BlockTable, tree: &Tree, first: &Key, last: &Key) -> Ends
 fn each_item_is_found(rt: HostRuntime) -> Result<(), Fail> {
     let mut table = BlockTable::new(rt.alloc(), 96)?;
     table.reserve(rt.alloc(), 63)?;
-    build(&rt, &mut table, &[]);
+    build(&rt, &mut table, None);
     assert!(rt; is_tree(&table, &TREE));
     for number in 0..120u8 {
         let key = key_of(number as u64);
@@ -143,13 +151,9 @@ fn each_item_is_found(rt: HostRuntime) -> Result<(), Fail> {
     Ok(())
 }
 
-#[test]
-fn ranges_give_their_items(rt: HostRuntime) -> Result<(), Fail> {
-    let mut table = BlockTable::new(rt.alloc(), 96)?;
-    table.reserve(rt.alloc(), 63)?;
-    build(&rt, &mut table, &[]);
-    assert!(rt; is_tree(&table, &TREE));
-    let rows = [
+/// First and last keys, and the ends of the range between them.
+fn range_rows() -> [(u64, u64, Ends); 8] {
+    [
         (0, 2000, (Some(0), Some(119), 120)),
         (550, 650, (Some(55), Some(65), 11)),
         (541, 659, (Some(55), Some(65), 11)),
@@ -158,50 +162,57 @@ fn ranges_give_their_items(rt: HostRuntime) -> Result<(), Fail> {
         (31, 39, (None, None, 0)),
         (40, 30, (None, None, 0)),
         (1191, 5000, (None, None, 0)),
-    ];
-    for (first, last, wanted) in rows {
+    ]
+}
+
+#[test]
+fn ranges_give_their_items(rt: HostRuntime) -> Result<(), Fail> {
+    let mut table = BlockTable::new(rt.alloc(), 96)?;
+    table.reserve(rt.alloc(), 63)?;
+    build(&rt, &mut table, None);
+    assert!(rt; is_tree(&table, &TREE));
+    for (first, last, wanted) in range_rows() {
         assert_eq!(rt; ends(&table, &TREE, &key_at(first), &key_at(last)), wanted);
     }
     Ok(())
 }
 
+/// Changes after which the tests' tree is none: a root of one child; a leaf without items; a first key that isn't the
+/// pointer's; a key above the next leaf's first; a child outside the volume; a leaf under two pointers; a node with too
+/// few children.
+fn faults() -> [Change; 7] {
+    [
+        (17, 96, 1),
+        (20, 96, 0),
+        (18, 110, 1),
+        (20, 137, 1),
+        (19, 119, 0xff),
+        (18, 152, 0x40),
+        (18, 96, 29),
+    ]
+}
+
 #[test]
-fn trees_and_others(rt: HostRuntime) -> Result<(), Fail> {
-    // a root of one child; a leaf without items; a first key that isn't the pointer's; a key above the next leaf's
-    // first; a child outside the volume; a child twice; a node with too few
-    let rows: [(&[Change], bool, bool); 8] = [
-        (&[], true, true),
-        (&[(17, 96, 1)], false, true),
-        (&[(20, 96, 0)], false, true),
-        (&[(18, 110, 1)], false, true),
-        (&[(20, 137, 1)], false, true),
-        (&[(19, 118, 0xff), (19, 119, 0xff)], false, true),
-        (&[(18, 152, 0x40)], false, true),
-        (&[(18, 96, 29)], false, true),
-    ];
-    for (changes, is_whole, is_one) in rows {
+fn other_blocks_are_no_tree(rt: HostRuntime) -> Result<(), Fail> {
+    for change in faults() {
         let mut table = BlockTable::new(rt.alloc(), 96)?;
         table.reserve(rt.alloc(), 63)?;
-        build(&rt, &mut table, changes);
-        assert_eq!(rt; is_tree(&table, &TREE), is_whole, "{changes:?}");
-        assert_eq!(rt; is_tree(&table, &LEAF), is_one, "{changes:?}");
+        build(&rt, &mut table, Some(change));
+        assert!(rt; !is_tree(&table, &TREE), "{change:?}");
     }
     Ok(())
 }
 
 #[test]
 fn one_leaf_is_a_tree(rt: HostRuntime) -> Result<(), Fail> {
-    let rows: [(&[Change], Ends); 2] = [
-        (&[], (Some(0), Some(1), 2)),
-        (&[(20, 96, 0)], (None, None, 0)),
-    ];
-    for (changes, wanted) in rows {
+    for count in 0..3u8 {
         let mut table = BlockTable::new(rt.alloc(), 96)?;
         table.reserve(rt.alloc(), 63)?;
-        build(&rt, &mut table, changes);
+        build(&rt, &mut table, Some((20, 96, count)));
         assert!(rt; is_tree(&table, &LEAF));
-        assert_eq!(rt; ends(&table, &LEAF, &key_at(0), &key_at(100)), wanted);
-        assert_eq!(rt; byte(get(&table, &LEAF, &key_of(1))), wanted.1);
+        let found = ends(&table, &LEAF, &key_at(0), &key_at(100));
+        assert_eq!(rt; found.2, count as usize);
+        assert_eq!(rt; get(&table, &LEAF, &key_of(1)).is_some(), count == 2);
     }
     Ok(())
 }
