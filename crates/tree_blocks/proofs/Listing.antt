@@ -1,5 +1,5 @@
 -- What a block that is known to be a leaf or a node lists, and what a table then shows of it.
-use Rattle.std.proofs.Common.{◌≡◌, ◌≤◌, ◌∙◌, ℕ, List, length, ap, sym, refl, arith, Result, Ok, Err, IsOk}
+use Rattle.std.proofs.Common.{◌≡◌, ◌≤◌, ◌∙◌, ◌++◌, ℕ, List, length, length-append, ap, sym, refl, arith, Result, Ok, Err, IsOk}
 use Rattle.blk_base.specs.declared.fault.BlockFault.{BlockFault}
 use Rattle.blk_base.specs.Leaf.{Item, Pointer, leaf_body_of, node_body_of}
 use Rattle.leaf_view.proofs.NodeLaws.{node_body_means}
@@ -65,3 +65,8 @@ node_shown table at bytes pointers same h = ap node_list same ∙ node_list-is b
 pub node_dirty : (table : Table) (at : ℕ) (bytes : List ℕ) (pointers : List Pointer) → (block_at table at).state ≡ Dirty → (block_at table at).bytes ≡ bytes → node_body_of bytes ≡ Ok pointers → IsDirtyNode table at
 node_dirty table at bytes pointers dirty same h =
     record { dirty = dirty; body = node_block (block_at table at).bytes pointers (ap node_body_of same ∙ h) }
+
+-- a list that begins with a node's pointers isn't empty
+pub some_pointers : (bytes : List ℕ) (front back all : List Pointer) → node_body_of bytes ≡ Ok front → all ≡ front ++ back → 1 ≤ length all
+some_pointers bytes front back all h is =
+    omega (arith, (node_body_means bytes front h).least, ap length is, length-append front back)

@@ -1,24 +1,25 @@
 ghost use Rattle.std.specs.Prelude.{◌≡◌, ◌≢◌, ◌≤◌, ◌<◌, ◌+◌, ◌*◌, ◌++◌, ◌∷◌, [], length, take, drop, insert, remove, true};
 ghost use Rattle.blk_base.specs.Address.{IsAllowed};
+ghost use Rattle.blk_base.specs.Bytes.{with_bytes};
 ghost use Rattle.blk_base.specs.Keys.{keys_rise};
 ghost use Rattle.blk_base.specs.Leaf.{data_of, room_of};
-ghost use Rattle.leaf_view.specs.Search.{keys_of};
+ghost use Rattle.leaf_view.specs.Search.{keys_of, IsPlace};
+ghost use Rattle.leaf_edit.specs.Written.{data_at, with_data};
 ghost use Rattle.block_table.specs.Slot.{free_slot};
 ghost use Rattle.block_table.specs.Table.{free_blocks};
 ghost use Rattle.block_table.specs.TreeIn.{block_at};
 ghost use Rattle.tree_blocks.specs.Steps.{HasNewBytes, IsDirtyLeaf, IsSameBut, IsTakenAt, leaf_at};
 
 use crate::fresh::fresh;
-use crate::within_leaf::{insert_item, join_items, remove_item, split_items};
+use crate::within_leaf::{insert_item, join_items, put_data, remove_item, split_items};
 use blk_base::{Addr, Key};
 use block_table::BlockTable;
 
-/// Puts an item in at a place of a leaf.
+/// Puts an item in at the place of a leaf where its key belongs, which `leaf_find` answers.
 pub fn leaf_insert(table: &mut BlockTable, at: Addr, place: usize, key: Key, bytes: &[u8])
     requires leaf { IsDirtyLeaf table.old at.0 }
-    requires within { place ≤ length (leaf_at table.old at.0) }
+    requires order { IsPlace (keys_of (leaf_at table.old at.0)) key place }
     requires room { 25 + length bytes.now ≤ room_of (leaf_at table.old at.0) }
-    requires order { keys_rise (keys_of (insert (leaf_at table.old at.0) place (key, bytes.now))) ≡ true }
     ensures items { leaf_at table.new at.0 ≡ insert (leaf_at table.old at.0) place (key, bytes.now) }
     ensures leaf { IsDirtyLeaf table.new at.0 }
     ensures kept { HasNewBytes table.old table.new at.0 }
@@ -41,6 +42,21 @@ pub fn leaf_remove(table: &mut BlockTable, at: Addr, place: usize)
     ensures free { free_blocks table.new ≡ free_blocks table.old }
 {
     remove_item(table.block_mut(at), place);
+}
+
+/// Writes bytes over a part of the data of the item at a place of a leaf, from a byte of the data on.
+pub fn leaf_put_data(table: &mut BlockTable, at: Addr, place: usize, from: usize, bytes: &[u8])
+    requires leaf { IsDirtyLeaf table.old at.0 }
+    requires within { place < length (leaf_at table.old at.0) }
+    requires inside { from + length bytes.now ≤ length (data_at (leaf_at table.old at.0) place) }
+    ensures items { leaf_at table.new at.0 ≡ with_data (leaf_at table.old at.0) place (with_bytes (data_at (leaf_at table.old at.0) place) from bytes.now) }
+    ensures leaf { IsDirtyLeaf table.new at.0 }
+    ensures kept { HasNewBytes table.old table.new at.0 }
+    ensures others { IsSameBut table.old table.new (at.0 ∷ []) }
+    ensures spare { table.new.spare ≡ table.old.spare }
+    ensures free { free_blocks table.new ≡ free_blocks table.old }
+{
+    put_data(table.block_mut(at), place, from, bytes);
 }
 
 /// Moves the items of a leaf from a place on to a new leaf, and answers its byte address.

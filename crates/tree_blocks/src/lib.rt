@@ -15,11 +15,11 @@ mod within_node;
 
 pub use child::Child;
 pub use fresh::{new_leaf, new_node, own};
-pub use leaf::{leaf_insert, leaf_join, leaf_remove, leaf_split};
+pub use leaf::{leaf_insert, leaf_join, leaf_put_data, leaf_remove, leaf_split};
 pub use node::{node_insert, node_join, node_remove, node_set_child, node_split};
 pub use read::{
-    is_leaf, is_node, leaf_data, leaf_find, leaf_key, leaf_len, leaf_room, node_child, node_find,
-    node_key, node_len,
+    is_leaf, is_node, leaf_data, leaf_find, leaf_follows, leaf_key, leaf_len, leaf_room,
+    node_child, node_find, node_follows, node_key, node_len,
 };
 
 #[cfg(test)]

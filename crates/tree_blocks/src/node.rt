@@ -1,7 +1,7 @@
 ghost use Rattle.std.specs.Prelude.{◌≡◌, ◌≢◌, ◌≤◌, ◌<◌, ◌+◌, ◌++◌, ◌∷◌, [], length, take, drop, insert, remove, true};
 ghost use Rattle.blk_base.specs.Address.{IsAllowed};
 ghost use Rattle.blk_base.specs.Keys.{keys_rise};
-ghost use Rattle.leaf_view.specs.Search.{pointer_keys};
+ghost use Rattle.leaf_view.specs.Search.{pointer_keys, IsPlace};
 ghost use Rattle.node_edit.specs.Pointers.{with_child};
 ghost use Rattle.block_table.specs.Slot.{free_slot};
 ghost use Rattle.block_table.specs.Table.{free_blocks};
@@ -15,7 +15,8 @@ use crate::within_node::{
 use blk_base::{Addr, Key};
 use block_table::BlockTable;
 
-/// Puts a pointer in at a place of a node: a child's first key, its byte address and its generation.
+/// Puts a pointer in at the place of a node where its key belongs, which `node_find` answers: a child's first key, its
+/// byte address and its generation.
 pub fn node_insert(
     table: &mut BlockTable,
     at: Addr,
@@ -25,9 +26,8 @@ pub fn node_insert(
     generation: u64,
 )
     requires node { IsDirtyNode table.old at.0 }
-    requires within { place ≤ length (node_at table.old at.0) }
+    requires order { IsPlace (pointer_keys (node_at table.old at.0)) key place }
     requires room { length (node_at table.old at.0) < 121 }
-    requires order { keys_rise (pointer_keys (insert (node_at table.old at.0) place (record { key = key; at = child.0; generation = generation }))) ≡ true }
     ensures pointers { node_at table.new at.0 ≡ insert (node_at table.old at.0) place (record { key = key; at = child.0; generation = generation }) }
     ensures node { IsDirtyNode table.new at.0 }
     ensures kept { HasNewBytes table.old table.new at.0 }
@@ -54,13 +54,7 @@ pub fn node_remove(table: &mut BlockTable, at: Addr, place: usize)
 }
 
 /// Changes the byte address and the generation of the pointer at a place of a node, and leaves its key.
-pub fn node_set_child(
-    table: &mut BlockTable,
-    at: Addr,
-    place: usize,
-    child: Addr,
-    generation: u64,
-)
+pub fn node_set_child(table: &mut BlockTable, at: Addr, place: usize, child: Addr, generation: u64)
     requires node { IsDirtyNode table.old at.0 }
     requires within { place < length (node_at table.old at.0) }
     ensures pointers { node_at table.new at.0 ≡ with_child (node_at table.old at.0) place child.0 generation }

@@ -1,5 +1,6 @@
-ghost use Rattle.std.specs.Prelude.{◌≡◌, ◌≢◌, ◌≤◌, ◌<◌, length, slice_get, Some, IsTrue, ◌↔◌, IfOk, IfErr};
-ghost use Rattle.blk_base.specs.Leaf.{room_of};
+ghost use Rattle.std.specs.Prelude.{◌≡◌, ◌≢◌, ◌≤◌, ◌<◌, ◌+◌, ◌*◌, ◌++◌, length, slice_get, Some, IsTrue, ◌↔◌, IfOk, IfErr};
+ghost use Rattle.blk_base.specs.Keys.{key_below, keys_rise};
+ghost use Rattle.blk_base.specs.Leaf.{data_of, room_of};
 ghost use Rattle.leaf_view.specs.Search.{keys_of, contents_of, pointer_keys, children_of, IsPlace};
 ghost use Rattle.block_table.specs.Table.{state_at};
 ghost use Rattle.tree_blocks.specs.Steps.{IsLeafAt, IsNodeAt, leaf_at, node_at};
@@ -8,6 +9,13 @@ use blk_base::{Addr, Key};
 use block_table::{BlockTable, SlotState};
 use leaf_edit::LeafMut;
 use leaf_view::{LeafView, NodeView, is_leaf_body, is_node_body};
+
+/// Whether a key is below another one.
+fn is_below(key: Key, other: Key) -> bool
+    ensures { result ≡ key_below key other }
+{
+    key < other
+}
 
 /// Whether the body of a block that isn't Free is a leaf's ("Leaf Node" of the on-disk format).
 pub fn is_leaf(table: &BlockTable, at: Addr) -> bool
@@ -39,7 +47,8 @@ pub fn leaf_len(table: &BlockTable, at: Addr) -> usize
 pub fn leaf_room(table: &BlockTable, at: Addr) -> usize
     requires taken { state_at table.now at ≢ SlotState.Free }
     requires leaf { IsLeafAt table.now at.0 }
-    ensures { result ≡ room_of (leaf_at table.now at.0) }
+    ensures value { result ≡ room_of (leaf_at table.now at.0) }
+    ensures fits { 25 * length (leaf_at table.now at.0) + data_of (leaf_at table.now at.0) ≤ 3995 }
 {
     let mut copy = *table.block(at);
     LeafMut::edit(&mut copy).room()
@@ -74,6 +83,21 @@ pub fn leaf_find(table: &BlockTable, at: Addr, key: &Key) -> Result<usize, usize
     ensures absent { IfErr result (IsPlace (keys_of (leaf_at table.now at.0)) key.now) }
 {
     LeafView::of_body(table.block(at)).find(key)
+}
+
+/// Whether the keys of a leaf and then those of another one rise, so that the leaves can be joined.
+pub fn leaf_follows(table: &BlockTable, left: Addr, right: Addr) -> bool
+    requires taken { state_at table.now left ≢ SlotState.Free }
+    requires leaf { IsLeafAt table.now left.0 }
+    requires other_taken { state_at table.now right ≢ SlotState.Free }
+    requires other_leaf { IsLeafAt table.now right.0 }
+    ensures { result ≡ keys_rise (keys_of (leaf_at table.now left.0 ++ leaf_at table.now right.0)) }
+{
+    let count = leaf_len(table, left);
+    if count == 0 || leaf_len(table, right) == 0 {
+        return true;
+    }
+    is_below(leaf_key(table, left, count - 1), leaf_key(table, right, 0))
 }
 
 /// The number of pointers of a node, 1 to 121.
@@ -116,4 +140,16 @@ pub fn node_find(table: &BlockTable, at: Addr, key: &Key) -> Result<usize, usize
     ensures absent { IfErr result (IsPlace (pointer_keys (node_at table.now at.0)) key.now) }
 {
     NodeView::of_body(table.block(at)).find(key)
+}
+
+/// Whether the keys of a node and then those of another one rise, so that the nodes can be joined.
+pub fn node_follows(table: &BlockTable, left: Addr, right: Addr) -> bool
+    requires taken { state_at table.now left ≢ SlotState.Free }
+    requires node { IsNodeAt table.now left.0 }
+    requires other_taken { state_at table.now right ≢ SlotState.Free }
+    requires other_node { IsNodeAt table.now right.0 }
+    ensures { result ≡ keys_rise (pointer_keys (node_at table.now left.0 ++ node_at table.now right.0)) }
+{
+    let count = node_len(table, left);
+    is_below(node_key(table, left, count - 1), node_key(table, right, 0))
 }

@@ -1,7 +1,7 @@
 ghost use Rattle.std.specs.Prelude.{◌≡◌, ◌≤◌, ◌<◌, ◌+◌, ◌++◌, ◌∷◌, [], length, take, drop, insert, remove, true, Ok};
 ghost use Rattle.blk_base.specs.Keys.{KeyBelow, keys_rise};
 ghost use Rattle.blk_base.specs.Leaf.{node_body_of};
-ghost use Rattle.leaf_view.specs.Search.{pointer_keys};
+ghost use Rattle.leaf_view.specs.Search.{pointer_keys, IsPlace};
 ghost use Rattle.node_edit.specs.Pointers.{with_child};
 ghost use Rattle.tree_blocks.specs.Lists.{IsNodeBlock, node_list, pointer_to};
 
@@ -19,12 +19,17 @@ pub(crate) fn put_two(block: &mut Block, first: Child, second: Child)
     node.insert(1, second.key, second.at, second.generation);
 }
 
-/// Puts a pointer in at a place.
-pub(crate) fn insert_pointer(block: &mut Block, place: usize, key: Key, child: Addr, generation: u64)
+/// Puts a pointer in at the place where its key belongs.
+pub(crate) fn insert_pointer(
+    block: &mut Block,
+    place: usize,
+    key: Key,
+    child: Addr,
+    generation: u64,
+)
     requires node { IsNodeBlock block.old }
-    requires within { place ≤ length (node_list block.old) }
+    requires order { IsPlace (pointer_keys (node_list block.old)) key place }
     requires room { length (node_list block.old) < 121 }
-    requires order { keys_rise (pointer_keys (insert (node_list block.old) place (record { key = key; at = child.0; generation = generation }))) ≡ true }
     ensures { node_body_of block.new ≡ Ok (insert (node_list block.old) place (record { key = key; at = child.0; generation = generation })) }
 {
     let mut node = NodeMut::edit(block);
@@ -66,6 +71,7 @@ pub(crate) fn split_pointers(block: &mut Block, back: &mut Block, place: usize)
 }
 
 /// Moves the pointers of another node behind the last one.
+#[tactic(auto, using(crate::proofs::Listing::some_pointers))]
 pub(crate) fn join_pointers(block: &mut Block, back: &mut Block)
     requires node { IsNodeBlock block.old }
     requires back { IsNodeBlock back.old }
