@@ -1,5 +1,5 @@
 -- Steps that change two blocks of the table.
-use Rattle.std.proofs.Common.{◌≡◌, ◌≢◌, ◌+◌, ◌≤◌, ◌∙◌, ℕ, List, [], ◌∷◌, length, false, ap, sym, subst, refl, arith}
+use Rattle.std.proofs.Common.{◌≡◌, ◌≢◌, ◌+◌, ◌∙◌, ℕ, List, [], ◌∷◌, length, ap, sym, subst, refl}
 use Rattle.std.specs.Prelude.{None}
 use Rattle.blk_base.specs.declared.key.Addr.{Addr}
 use Rattle.blk_base.specs.Address.{IsAllowed}

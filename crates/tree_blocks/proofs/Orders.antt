@@ -1,12 +1,11 @@
 -- Keys of a leaf and of a node rise; when those of two lists together do.
-use Rattle.std.proofs.Common.{◌≡◌, ◌+◌, ◌-◌, ◌≤◌, ◌<◌, ◌∙◌, ◌++◌, ◌∷◌, ℕ, zero, suc, List, [], length, map, Bool, true, false, refl, ap, sym, subst, arith, Ok, Some, slice_get}
-use Rattle.std.proofs.lemmas.Bool.{and_parts, and_from}
+use Rattle.std.proofs.Common.{◌≡◌, ◌+◌, ◌∙◌, ◌++◌, ◌∷◌, ℕ, zero, suc, List, [], length, map, Bool, true, false, refl, ap, sym, arith, Some, slice_get}
+use Rattle.std.proofs.lemmas.Bool.{and_parts}
 use Rattle.std.specs.Prelude.{◌&&◌}
 use Rattle.std.specs.List.{range_with_len}
 use Rattle.blk_base.specs.declared.key.Key.{Key}
 use Rattle.blk_base.specs.Keys.{key_at, key_below, keys_rise}
-use Rattle.blk_base.specs.Leaf.{Item, Pointer, node_body_of, count_of, pointer_at, pointer_of}
-use Rattle.leaf_view.specs.Listed.{pointers_in}
+use Rattle.blk_base.specs.Leaf.{Item, Pointer, count_of, pointer_at, pointer_of}
 use Rattle.leaf_view.specs.Search.{keys_of, pointer_keys}
 use Rattle.leaf_view.proofs.LeafLaws.{leaf_body_listed}
 use Rattle.leaf_view.proofs.NodeLaws.{node_body_listed, body_passes}

@@ -1,19 +1,19 @@
 -- One block of the table is replaced: what stands there then, what stays, and how many blocks are Free.
-use Rattle.std.proofs.Common.{◌≡◌, ◌≢◌, ◌+◌, ◌-◌, ◌≤◌, ◌<◌, ◌/◌, ◌%◌, ◌∙◌, ℕ, zero, suc, List, [], ◌∷◌, length, slice_index_or, slice_set, Bool, true, false, ap, sym, subst, refl, arith}
-use Rattle.std.specs.Prelude.{Contains, None}
+use Rattle.std.proofs.Common.{◌≡◌, ◌≢◌, ◌+◌, ◌-◌, ◌≤◌, ◌<◌, ◌/◌, ◌%◌, ◌∙◌, ℕ, zero, suc, List, [], ◌∷◌, length, slice_index_or, true, false, ap, sym, subst, refl, arith}
+use Rattle.std.specs.Prelude.{Contains}
 use Rattle.std.proofs.lemmas.Bool.Decides.{nat_tests}
 use Rattle.std.proofs.lemmas.Bool.{eq-eqb}
 use Rattle.std.proofs.lemmas.List.{length-set}
 use Rattle.blk_base.specs.declared.key.Addr.{Addr}
 use Rattle.blk_base.specs.Address.{IsAllowed}
-use Rattle.block_table.specs.declared.state.SlotState.TheVariants.{Free, Dirty, LetGo}
+use Rattle.block_table.specs.declared.state.SlotState.TheVariants.{Free, Dirty}
 use Rattle.block_table.specs.Slot.{BlockSlot, free_slot, dirty_slot, is_free}
 use Rattle.block_table.specs.Table.{Table, slot_at, state_at, with_slot, with_spare, free_blocks, free_one, is_free_block}
 use Rattle.block_table.specs.TreeIn.{block_at}
 use Rattle.block_table.specs.Counts.{free_one-taken, free_one-free}
 use Rattle.block_table.specs.Laws.{slot_at-with_slot_same, slot_at-with_slot_other, free_blocks-with_slot}
 use Rattle.block_table.proofs.Kept.{IsFound, found}
-use Rattle.tree_blocks.specs.Steps.{IsSameBut, IsTakenAt, IsCopied}
+use Rattle.tree_blocks.specs.Steps.{IsSameBut}
 
 same_sum : (a b x y : ℕ) → a + x ≡ b + y → x ≡ 0 → y ≡ 0 → a ≡ b
 same_sum a b x y h p q = omega (arith, h, p, q)

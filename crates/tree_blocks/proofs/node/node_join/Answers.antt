@@ -1,4 +1,4 @@
-use Rattle.std.proofs.Common.{◌∙◌, ◌++◌, ap, arith}
+use Rattle.std.proofs.Common.{◌∙◌, ◌++◌, ap}
 use Rattle.block_table.specs.Table.{slot_at}
 use Rattle.tree_blocks.specs.Lists.{node_list}
 use Rattle.tree_blocks.proofs.Listing.{node_shown, node_dirty}

@@ -1,6 +1,4 @@
-use Rattle.std.proofs.Common.{◌≡◌, sym, ap, subst, ℕ, List, true}
-use Rattle.std.specs.Prelude.{IsOk}
-use Rattle.blk_base.specs.Leaf.{leaf_body_of}
+use Rattle.std.proofs.Common.{sym, subst, ℕ, List}
 use Rattle.tree_blocks.specs.Lists.{IsLeafBlock}
 use Rattle.tree_blocks.proofs.Listing.{leaf_from_ok, leaf_to_ok}
 use Rattle.tree_blocks.proofs.read.is_leaf.Goals as goal

@@ -1,6 +1,4 @@
-use Rattle.std.proofs.Common.{◌≡◌, sym, ap, subst, ℕ, List, true}
-use Rattle.std.specs.Prelude.{IsOk}
-use Rattle.blk_base.specs.Leaf.{node_body_of}
+use Rattle.std.proofs.Common.{sym, subst, ℕ, List}
 use Rattle.tree_blocks.specs.Lists.{IsNodeBlock}
 use Rattle.tree_blocks.proofs.Listing.{node_from_ok, node_to_ok}
 use Rattle.tree_blocks.proofs.read.is_node.Goals as goal

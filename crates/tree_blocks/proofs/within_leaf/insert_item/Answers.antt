@@ -1,9 +1,8 @@
-use Rattle.std.proofs.Common.{◌≡◌, List, subst}
+use Rattle.std.proofs.Common.{List, subst}
 use Rattle.blk_base.specs.Leaf.{Item}
 use Rattle.leaf_view.specs.Search.{keys_of, IsPlace}
 use Rattle.leaf_edit.specs.Editor.{items_of}
 use Rattle.leaf_edit.proofs.Placing.{order-insert}
-use Rattle.tree_blocks.specs.Lists.{leaf_list}
 use Rattle.tree_blocks.proofs.Listing.{leaf_list-is}
 use Rattle.tree_blocks.proofs.within_leaf.insert_item.Goals as goal
 

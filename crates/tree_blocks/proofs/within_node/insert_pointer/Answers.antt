@@ -1,9 +1,8 @@
-use Rattle.std.proofs.Common.{◌≡◌, List, subst}
+use Rattle.std.proofs.Common.{List, subst}
 use Rattle.blk_base.specs.Leaf.{Pointer}
 use Rattle.leaf_view.specs.Search.{pointer_keys, IsPlace}
 use Rattle.leaf_edit.proofs.Placing.{pointer_order-insert}
 use Rattle.node_edit.specs.Editor.{pointers_of}
-use Rattle.tree_blocks.specs.Lists.{node_list}
 use Rattle.tree_blocks.proofs.Listing.{node_list-is}
 use Rattle.tree_blocks.proofs.within_node.insert_pointer.Goals as goal
 
