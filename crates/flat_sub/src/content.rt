@@ -1,12 +1,14 @@
 //! What reads and changes files and attributes.
 ghost use Rattle.std.specs.Prelude.{◌≡◌, ◌≤◌, ◌+◌, ℕ, List, length, IfOk, OnOk, OnErr, [], false, nat_lt, is_some};
-ghost use Rattle.std.specs.FinMap.{get, remove};
+ghost use Rattle.std.specs.FinMap.{get, insert, remove};
+ghost use Rattle.blk_base.specs.Crc.{name_hash_of};
 ghost use Rattle.flat_model.specs.Contents.{most_file_bytes, bytes_read, written, truncated};
+ghost use Rattle.flat_model.specs.Lengths.{most_item_bytes, xattr_item_length};
 ghost use Rattle.flat_model.specs.Names.{FlatName};
 ghost use Rattle.flat_model.specs.Records.{FileInode};
 ghost use Rattle.flat_model.specs.Volume.{is_dir_there, is_link_there};
 ghost use Rattle.flat_model.specs.Walk.{WalkEnd, record_at};
-ghost use Rattle.flat_model.specs.Operations.{write, truncate, read, remove_attribute, get_attribute, first_answer, file_rows, file_there, attributes_there};
+ghost use Rattle.flat_model.specs.Operations.{write, truncate, read, set_attribute, remove_attribute, get_attribute, first_answer, file_rows, file_there, attributes_there};
 ghost use Rattle.flat_sub.specs.View.{sub_view, IsWellKept};
 ghost use Rattle.flat_sub.specs.Ends.{IsEnd, ComesTo};
 ghost use Rattle.flat_sub.specs.Editing.{with_record_of, with_attributes_of};
@@ -20,6 +22,9 @@ use std::alloc::Global;
 
 /// The most bytes of a file (own).
 const MOST_FILE_BYTES: u64 = 16_777_216;
+
+/// The most bytes of an attribute's value (own).
+const MOST_VALUE_BYTES: usize = 1024;
 
 /// Whether so many bytes from an offset on end past the most bytes of a file.
 fn ends_past_limit(offset: u64, count: u64) -> bool
@@ -211,6 +216,76 @@ impl FlatSub {
         }
         let text = self.read_at(alloc, end.ino(), offset, count)?;
         Ok(Answer::Bytes(text))
+    }
+
+    /// Whether the item of an attribute would have more bytes than a leaf holds, with this value; where no inode has the
+    /// number, with no other attribute.
+    fn is_attribute_crowded(&self, alloc: Global, ino: u64, name: &Name, value: &Text) -> bool
+        ensures { result ≡ nat_lt most_item_bytes (xattr_item_length (insert (attributes_there (get (sub_view self.now).sub.inodes ino)) name.now value.now) (name_hash_of name.now)) }
+    {
+        match place_of(&self.inodes, ino) {
+            Some(at) => {
+                let entry = &self.inodes[at];
+                entry.1.is_attribute_crowded(name, value)
+            }
+            None => {
+                let none = Inode::new(alloc, Kind::Dir, 0, Text::repeat(0, 0));
+                none.is_attribute_crowded(name, value)
+            }
+        }
+    }
+
+    /// Gives an attribute of the inode of this number a value, where one has it.
+    fn set_attribute_at(
+        &mut self,
+        alloc: Global,
+        ino: u64,
+        name: &Name,
+        value: &Text,
+    ) -> Result<(), OutOfMemory>
+        requires { IsWellKept self.old }
+        ensures ok { OnOk result (sub_view self.new ≡ with_attributes_of (sub_view self.old) ino (insert (attributes_there (get (sub_view self.old).sub.inodes ino)) name.now value.now)) }
+        ensures err { OnErr result (sub_view self.new ≡ sub_view self.old) }
+        ensures kept { IsWellKept self.new }
+    {
+        match place_of(&self.inodes, ino) {
+            Some(at) => {
+                let entry = &mut self.inodes[at];
+                entry.1.set_attribute(alloc, name, value)
+            }
+            None => Ok(()),
+        }
+    }
+
+    /// Sets an attribute to a value.
+    pub fn set_attribute(
+        &mut self,
+        alloc: Global,
+        path: &Path,
+        name: &Name,
+        value: &Text,
+    ) -> Result<Answer, OutOfMemory>
+        requires { IsWellKept self.old }
+        ensures done { IfOk result (ComesTo (set_attribute (sub_view self.old) path.now name.now value.now) (sub_view self.new)) }
+        ensures err { OnErr result (sub_view self.new ≡ sub_view self.old) }
+        ensures kept { IsWellKept self.new }
+    {
+        let end = self.walk(path);
+        if end.is_absent() {
+            return Ok(Answer::NoEnt);
+        }
+        if end.is_blocked() {
+            return Ok(Answer::NotDir);
+        }
+        if value.len() > MOST_VALUE_BYTES {
+            return Ok(Answer::TooLarge);
+        }
+        let ino = end.ino();
+        if self.is_attribute_crowded(alloc, ino, name, value) {
+            return Ok(Answer::Collide);
+        }
+        self.set_attribute_at(alloc, ino, name, value)?;
+        Ok(Answer::Plain)
     }
 
     /// Whether the inode of this number is there and has an attribute.

@@ -107,7 +107,7 @@ fn answered(answer: Answer) -> Result<Text, Fail> {
 }
 
 #[test]
-fn files_change(rt: HostRuntime) -> Result<(), Fail> {
+fn files_and_attributes_change(rt: HostRuntime) -> Result<(), Fail> {
     let alloc = rt.alloc();
     let mut sub = FlatSub::bare(alloc)?;
     let (a, b, root) = (
@@ -132,5 +132,21 @@ fn files_change(rt: HostRuntime) -> Result<(), Fail> {
     let name = Name::new(alloc, b"n")?;
     assert!(rt; matches!(sub.get_attribute(alloc, &a, &name)?, Answer::NoAttr));
     assert!(rt; matches!(sub.remove_attribute(&a, &name), Answer::NoAttr));
+    assert!(rt;
+        matches!(
+            sub.set_attribute(alloc, &a, &name, &Text::repeat(1025, 1))?,
+            Answer::TooLarge
+        )
+    );
+    assert!(rt;
+        matches!(
+            sub.set_attribute(alloc, &a, &name, &Text::repeat(1024, 1))?,
+            Answer::Plain
+        )
+    );
+    assert!(rt; matches!(sub.set_attribute(alloc, &a, &name, &text)?, Answer::Plain));
+    assert!(rt; answered(sub.get_attribute(alloc, &a, &name)?)? == text);
+    assert!(rt; matches!(sub.remove_attribute(&a, &name), Answer::Plain));
+    assert!(rt; matches!(sub.get_attribute(alloc, &a, &name)?, Answer::NoAttr));
     Ok(())
 }
