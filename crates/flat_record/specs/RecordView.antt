@@ -1,5 +1,5 @@
 -- How an inode's fields are seen, and what holds of them.
-use Rattle.std.specs.Prelude.{◌≡◌, ℕ, List, length, map, All, IsTrue}
+use Rattle.std.specs.Prelude.{◌≡◌, length, map, All, IsTrue}
 use Rattle.std.specs.Ordering.{nat_cmp}
 use Rattle.std.specs.Cmp.Lexicographic.{slice_cmp}
 use Rattle.std.specs.FinMap.{from_entries, is_sorted}

@@ -38,7 +38,12 @@ pub(crate) fn compare(one: &NameAt, one_near: bool, two: &NameAt, two_near: bool
 }
 
 /// Where a name with its mark stands among others in order, or would stand, and whether it stands there.
-pub(crate) fn place_among(at: &NameAt, near: bool, names: &Vec<NameAt>, marks: &Vec<bool>) -> (usize, bool)
+pub(crate) fn place_among(
+    at: &NameAt,
+    near: bool,
+    names: &Vec<NameAt>,
+    marks: &Vec<bool>,
+) -> (usize, bool)
     requires { vec_len marks.now ≡ vec_len names.now }
     ensures place { result.0 ≡ place_in (name_view at.now near) (names_view names.now.items marks.now.items) }
     ensures there { result.1 ≡ has_name (name_view at.now near) (names_view names.now.items marks.now.items) }

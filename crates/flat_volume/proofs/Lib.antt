@@ -1,2 +1,3 @@
 mod Bare
+mod Kept
 mod Views

@@ -40,7 +40,7 @@ impl FlatVolume {
     ghost use Rattle.flat_model.specs.Volume.{mounted, bare_volume};
     ghost use Rattle.flat_volume.specs.Building.{at_sub};
     ghost use Rattle.flat_sub.specs.Building.{with_inode, with_name};
-    ghost use Rattle.flat_record.specs.RecordView.{record_of_kind};
+    ghost use Rattle.flat_record.specs.NewRecord.{record_of_kind};
     ghost use Rattle.flat_model.specs.Unmarked.{unmarked};
     ghost use Rattle.flat_sub.specs.View.{name_view};
 

@@ -1,6 +1,6 @@
-use Rattle.std.proofs.Common.{◌≡◌, sym, ap, ◌∙◌, set}
+use Rattle.std.proofs.Common.{sym, ap, ◌∙◌}
 use Rattle.std.specs.Ordering.{nat_cmp}
-use Rattle.std.specs.FinMap.{from_entries, put, is_sorted}
+use Rattle.std.specs.FinMap.{from_entries, is_sorted}
 use Rattle.std.specs.Bool.{nat_le}
 use Rattle.flat_record.proofs.Tables.{position_place, position_past, put_set, put_insert, put_push, map_put, rising_put}
 use Rattle.flat_record.proofs.table.put_entry.Goals as goal

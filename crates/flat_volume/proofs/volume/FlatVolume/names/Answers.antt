@@ -21,5 +21,5 @@ returns c =
     let lent : ℕ × FlatSub = c.index-entry.result.now in
     let there : get c.args.self.now c.args.sub.0 ≡ Some (sub_view lent.1) =
     ap (λ v. get v c.args.sub.0) (sym c.self.view_is) ∙ view_at subs c.in-Some.at c.args.sub.0 lent (sym c.in-Some.ensures) ∙ ap (λ (e : ℕ × FlatSub). Some (sub_view e.1)) (sym c.index-entry.ensures) in
-    let kept : IsWellKept lent.1 = subst (λ (e : ℕ × FlatSub). IsWellKept e.1) (sym c.index-entry.ensures) (c.self.invariant c.in-Some.at lent (position_below _ subs c.in-Some.at (sym c.in-Some.ensures))) in
+    let kept : IsWellKept lent.1 = subst (λ (e : ℕ × FlatSub). IsWellKept e.1) (sym c.index-entry.ensures) (c.self.invariant.each c.in-Some.at lent (position_below _ subs c.in-Some.at (sym c.in-Some.ensures))) in
     subst (λ o. IfSome o (λ (run : RunSub). c.as_slice.result.now ≡ map unmarked run.sub.names)) (sym there) (c.as_slice.ensures.value ∙ sym (unmarked_names lent.1.names.items lent.1.near.items kept.marked))

@@ -6,9 +6,10 @@ use Rattle.flat_model.specs.Records.{InodeRecord}
 use Rattle.flat_model.specs.Volume.{RunSub}
 use Rattle.flat_volume.specs.Building.{at_sub}
 use Rattle.flat_sub.specs.Building.{with_inode}
-use Rattle.flat_record.specs.RecordView.{record_of_kind}
+use Rattle.flat_record.specs.NewRecord.{record_of_kind}
 use Rattle.flat_sub.specs.View.{sub_view}
 use Rattle.flat_volume.proofs.Views.{on_ok, on_err, view_set, view_same, view_nowhere}
+use Rattle.flat_volume.proofs.Kept.{kept_set}
 use Rattle.flat_volume.proofs.volume.FlatVolume.put_inode.Goals as goal
 
 pub returns-clause-ok : goal.returns-clause-ok
@@ -30,3 +31,6 @@ returns-clause-err c =
 pub unreachable-requires : goal.unreachable-requires
 unreachable-requires c =
     true≢false (sym c.requires ∙ ap (λ v. is_some (get v c.args.sub.0)) (sym c.self.view_is) ∙ ap is_some (view_nowhere c.self.inside.subs.items c.args.sub.0 (sym c.in_default.ensures)))
+
+pub invariant_of-self : goal.invariant_of-self
+invariant_of-self c = kept_set c.self.inside.subs.items c.in-Some.at c.args.sub.0 c.index_mut-entry.result.now c.add_inode.new.self (sym c.in-Some.ensures) c.index_mut-entry.ensures.value c.add_inode.ensures.kept c.self.invariant
