@@ -10,4 +10,5 @@ mod sub;
 mod tests;
 mod walk;
 
+pub use list::Item;
 pub use sub::FlatSub;

@@ -55,7 +55,7 @@ begun table tree key at place next is_tree path start =
     let leaf = leaf_items table at.0 in
     let spot : Spot = record { leaf = at; place = place; next = next } in
     let shown : tree_items table tree ≡ (path.before ++ take place leaf) ++ (drop place leaf ++ path.after) =
-      path.items ∙ ap (λ (l : List Item). path.before ++ (l ++ path.after)) (sym (take-append-drop place leaf)) ∙ regroup path.before (take place leaf) (drop place leaf) path.after in
+    path.items ∙ ap (λ (l : List Item). path.before ++ (l ++ path.after)) (sym (take-append-drop place leaf)) ∙ regroup path.before (take place leaf) (drop place leaf) path.after in
     let is : IsSpot table tree spot = record { is_root = path.is_root; shape = path.shape; inside = start.inside; front = path.before ++ take place leaf; after = path.after; items = shown; next_is = path.next_is } in
     let below : AreBelow key (path.before ++ take place leaf) = All-append (λ (item : Item). KeyBelow item.0 key) path.before (take place leaf) path.below start.below in
     let above : All (λ (item : Item). key_below item.0 key ≡ false) (drop place leaf ++ path.after) = All-append (λ (item : Item). key_below item.0 key ≡ false) (drop place leaf) path.after start.from (not_below key path.after path.above) in
@@ -106,8 +106,8 @@ there table tree spot new next is_tree s past some is items above =
       holds = elim (cases_lt new.place (length (leaf_items table new.leaf.0))) [
         | inl within ↦ within
         | inr end ↦
-          let first : new.next ≡ Some next = sym (left_first table tree new is_tree is end) ∙ ap first_key same ∙ left_first table tree spot is_tree s past ∙ some in
-          absurd (KeyBelow_irrefl next (above next first))
+            let first : new.next ≡ Some next = sym (left_first table tree new is_tree is end) ∙ ap first_key same ∙ left_first table tree spot is_tree s past ∙ some in
+            absurd (KeyBelow_irrefl next (above next first))
       ];
     }
 

@@ -99,9 +99,9 @@ step table tree level key at next child behind is_tree path is_child =
     let middle = f c.pointer in
     let right = flat_map f c.rights in
     let items : tree_items table tree ≡ (path.before ++ left) ++ (middle ++ (right ++ path.after)) =
-      path.items ∙ ap (λ (l : List Item). path.before ++ (l ++ path.after)) (cut f pointers c.lefts c.pointer c.rights c.split) ∙ regroup path.before left middle right path.after in
+    path.items ∙ ap (λ (l : List Item). path.before ++ (l ++ path.after)) (cut f pointers c.lefts c.pointer c.rights c.split) ∙ regroup path.before left middle right path.after in
     let is_cut : IsCut (tree_items table tree) path.before left middle right path.after c.pointer.key =
-      record { is = items; rise = is_tree.order; first = first_is middle c.pointer.key here.1 } in
+    record { is = items; rise = is_tree.order; first = first_is middle c.pointer.key here.1 } in
     let rise_behind : ItemsRise (right ++ path.after) = rise_right middle (right ++ path.after) (rise_right (path.before ++ left) (middle ++ (right ++ path.after)) (subst ItemsRise items is_tree.order)) in
     let below : AreBelow key (path.before ++ left) = elim c.low [
       | inl e ↦ All-append (λ (item : Item). KeyBelow item.0 key) path.before left path.below (All-same (λ (item : Item). KeyBelow item.0 key) left [] (ap (flat_map f) e) (All-nil (λ (item : Item). KeyBelow item.0 key)))
