@@ -1,12 +1,18 @@
 //! The plain, slow volume: every operation as its definition has it, for tests and for judging an image from outside.
 #![tactic(auto)]
 
+#[cfg(test)]
+mod applied;
 mod applying;
 mod flat_view;
 mod putting;
 mod reading;
 #[cfg(test)]
+mod script;
+#[cfg(test)]
 mod tests;
+#[cfg(test)]
+mod told;
 mod volume;
 
 pub use applying::is_in_limits;

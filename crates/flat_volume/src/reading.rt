@@ -1,9 +1,9 @@
 //! What a volume tells of its subvolumes and inodes.
-ghost use Rattle.std.specs.Prelude.{◌≡◌, IsSome, IfOk, IfSome, option_map};
+ghost use Rattle.std.specs.Prelude.{◌≡◌, ◌↔◌, IsTrue, IsSome, IfOk, IfSome, option_map};
 ghost use Rattle.std.specs.FinMap.{get, len};
 ghost use Rattle.flat_model.specs.Records.{kind_of};
 ghost use Rattle.flat_sub.specs.View.{sub_view, IsWellKept};
-ghost use Rattle.flat_volume.specs.Building.{record_in, inos_of};
+ghost use Rattle.flat_volume.specs.Building.{record_in, inos_of, HaveSameRecord};
 
 use crate::{FlatView, FlatVolume};
 use blk_base::{Ino, OutOfMemory, SubId};
@@ -81,6 +81,18 @@ impl FlatVolume {
         match self.inode(sub, ino) {
             Some(inode) => Some(inode.kind()),
             None => None,
+        }
+    }
+
+    /// Whether both volumes have this inode, with equal records: attributes, and size and blocks or target. Takes no
+    /// memory.
+    pub fn same_record(&self, other: &FlatVolume, sub: SubId, ino: Ino) -> bool
+        ensures { IsTrue result ↔ HaveSameRecord self.now other.now sub.0 ino.0 }
+    {
+        match (self.inode(sub, ino), other.inode(sub, ino)) {
+            (Some(one), Some(two)) => one.is_same(two),
+            (Some(_), None) | (None, Some(_)) => false,
+            (None, None) => false,
         }
     }
 }
