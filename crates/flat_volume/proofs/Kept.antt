@@ -21,7 +21,7 @@ below_set k [] i lent new is = refl
 below_set k (e ∷ es) zero lent new is = ap (λ (x : ℕ). is_lt (nat_cmp k x) && below_all nat_cmp k es) (ap (λ p. p.0) is)
 below_set k (e ∷ es) (suc i) lent new is = ap (λ b. is_lt (nat_cmp k e.0) && b) (below_set k es i lent new is)
 
-rising_set : {X : Type 0} (es : List (ℕ × X)) (i : ℕ) (lent : ℕ × X) (new : X) → lent ≡ get_or es i lent → is_sorted nat_cmp (set es i (lent.0, new)) ≡ is_sorted nat_cmp es
+pub rising_set : {X : Type 0} (es : List (ℕ × X)) (i : ℕ) (lent : ℕ × X) (new : X) → lent ≡ get_or es i lent → is_sorted nat_cmp (set es i (lent.0, new)) ≡ is_sorted nat_cmp es
 rising_set [] i lent new is = refl
 rising_set (e ∷ es) zero lent new is = ap (λ (x : ℕ). below_all nat_cmp x es && is_sorted nat_cmp es) (ap (λ p. p.0) is)
 rising_set (e ∷ es) (suc i) lent new is = λ j. below_set e.0 es i lent new is j && rising_set es i lent new is j

@@ -1,3 +1,7 @@
 mod Bare
+mod Changed
+mod Choosing
+mod Each
 mod Kept
+mod Unmarking
 mod Views

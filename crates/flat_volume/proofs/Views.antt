@@ -23,7 +23,7 @@ pub on_err : {T E : Type 0} {P Q : Type 0} (r : Result T E) → (P → Q) → On
 on_err (Ok x) f p = p
 on_err (Err e) f p = f p
 
-key_at : {X : Type 0} (key : ℕ) (es : List (ℕ × X)) (i : ℕ) (d : ℕ × X) → FirstAt (λ (e : ℕ × X). e.0 == key) es i → (get_or es i d).0 ≡ key
+pub key_at : {X : Type 0} (key : ℕ) (es : List (ℕ × X)) (i : ℕ) (d : ℕ × X) → FirstAt (λ (e : ℕ × X). e.0 == key) es i → (get_or es i d).0 ≡ key
 key_at key [] i d at = absurd at
 key_at key (e ∷ es) Prim.Native.Nat.zero d at = eqb-true e.0 key at
 key_at key (e ∷ es) (Prim.Native.Nat.suc i) d at = key_at key es i d at.1

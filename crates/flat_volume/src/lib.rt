@@ -2,7 +2,19 @@
 #![tactic(auto)]
 
 #[cfg(test)]
+mod applied;
+mod applying;
+mod flat_view;
+mod putting;
+mod reading;
+#[cfg(test)]
+mod script;
+#[cfg(test)]
 mod tests;
+#[cfg(test)]
+mod told;
 mod volume;
 
+pub use applying::is_in_limits;
+pub use flat_view::FlatView;
 pub use volume::FlatVolume;
