@@ -1,2 +1,3 @@
+pub mod SizedBlocks
 pub mod RecordView
 pub mod NewRecord

@@ -1,8 +1,14 @@
 //! An inode apart from its names: its attributes, and the blocks of a file or the target of a symlink.
 #![tactic(auto)]
 
+mod attributes;
+mod block;
+mod blocks;
+mod file;
 mod record;
 mod table;
+#[cfg(test)]
+mod tests;
 
 pub use record::Inode;
 pub use table::{drop_entries, place_of, put_entry};

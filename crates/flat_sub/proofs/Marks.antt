@@ -1,12 +1,11 @@
 -- The greatest indexes of directories, once an index more has been counted.
-use Rattle.std.proofs.Common.{◌≡◌, ℕ, ◌≤◌, max, Bool, true, false, cond, List, [], Some, ap, sym, subst, ◌∙◌, arith}
+use Rattle.std.proofs.Common.{◌≡◌, ℕ, ◌≤◌, max, Bool, true, false, cond, [], Some, ap, sym, subst, ◌∙◌, arith}
 use Rattle.std.specs.Ordering.{nat_cmp, eq_by_cmp}
 use Rattle.std.specs.Option.{unwrap_or}
 use Rattle.std.specs.Cmp.{nat_cmp_total}
 use Rattle.std.specs.FinMap.{FinMap, get, insert, from_entries, get-insert, get-empty}
-use Rattle.flat_model.specs.Names.{is_name_set}
 use Rattle.flat_sub.specs.declared.sub.FlatSub.{FlatSub}
-use Rattle.flat_sub.specs.View.{names_view, IsWellKept}
+use Rattle.flat_sub.specs.View.{IsWellKept}
 
 -- the greatest index that a directory has had, 1 where it has had none
 abbrev pub last_in : FinMap nat_cmp ℕ → ℕ → ℕ

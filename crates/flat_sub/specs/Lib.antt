@@ -2,3 +2,4 @@ pub mod View
 pub mod Building
 pub mod Ends
 pub mod Lists
+pub mod Moves

@@ -3,6 +3,7 @@
 
 mod list;
 mod making;
+mod moving;
 mod removal;
 mod sub;
 #[cfg(test)]

@@ -22,7 +22,7 @@ const SPENT: u64 = 0x4000_0000_0000_0000;
 const MOST_LINKS: usize = 65535;
 
 /// A copy of a path's last name.
-fn last_name(alloc: Global, path: &Path) -> Result<Name, OutOfMemory>
+pub(crate) fn last_name(alloc: Global, path: &Path) -> Result<Name, OutOfMemory>
     requires { 0 < length path.now }
     ensures { IfOk result (λ name. name ≡ last_of path.now) }
 {
@@ -39,14 +39,14 @@ impl FlatSub {
     }
 
     /// Whether the subvolume has had an index of 2^62 or above.
-    fn indexes_are_spent(&self) -> bool
+    pub(crate) fn indexes_are_spent(&self) -> bool
         ensures { result ≡ indexes_are_spent (sub_view self.now).marks }
     {
         self.last_index >= SPENT
     }
 
     /// Has these names in place of its own, and counts an index as one that a directory and the subvolume have had.
-    fn settle(&mut self, list: NameList, dir: u64, index: u64)
+    pub(crate) fn settle(&mut self, list: NameList, dir: u64, index: u64)
         requires list { IsList list }
         requires room { vec_len self.old.dir_indexes < vec_capacity self.old.dir_indexes }
         ensures view { sub_view self.new ≡ settled (sub_view self.old) (list_view list) dir index }

@@ -11,7 +11,7 @@ use flat_model::{Answer, NameAt, Path};
 use flat_record::drop_entries;
 
 /// How many of these names lead to an inode.
-fn count_leading(names: &[NameAt], ino: u64) -> usize
+pub(crate) fn count_leading(names: &[NameAt], ino: u64) -> usize
     ensures { result ≡ count_by (λ name. nat_eq name.ino.0 ino) names.now }
 {
     names.iter().filter(|name| name.ino.0 == ino).count()

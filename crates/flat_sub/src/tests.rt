@@ -48,3 +48,52 @@ fn names_are_made_and_go(rt: HostRuntime) -> Result<(), Fail> {
     assert_eq!(rt; sub.last_index, 4);
     Ok(())
 }
+
+#[test]
+fn names_move(rt: HostRuntime) -> Result<(), Fail> {
+    let alloc = rt.alloc();
+    let mut sub = FlatSub::bare(alloc)?;
+    let (root, a, b) = (
+        path(alloc, &[])?,
+        path(alloc, &[b"a"])?,
+        path(alloc, &[b"b"])?,
+    );
+    let (d, e) = (path(alloc, &[b"d"])?, path(alloc, &[b"e"])?);
+    let (below, deep) = (
+        path(alloc, &[b"d", b"a"])?,
+        path(alloc, &[b"d", b"a", b"x"])?,
+    );
+    for file in [&a, &b] {
+        let inode = Inode::new(alloc, Kind::File, 0, Text::new(alloc, b"")?);
+        sub.make(alloc, file, inode)?;
+    }
+    for dir in [&d, &e] {
+        let inode = Inode::new(alloc, Kind::Dir, 0, Text::new(alloc, b"")?);
+        sub.make(alloc, dir, inode)?;
+    }
+    assert!(rt; matches!(sub.rename(alloc, &a, &b)?, Answer::Plain));
+    assert!(rt; matches!(sub.lookup(&b), Answer::Number(257)));
+    assert!(rt; sub.kind(258) == None);
+    assert!(rt; matches!(sub.rename(alloc, &a, &b)?, Answer::NoEnt));
+    assert!(rt; matches!(sub.rename(alloc, &b, &d)?, Answer::IsDir));
+    assert!(rt; matches!(sub.rename(alloc, &d, &b)?, Answer::NotDir));
+    assert!(rt; matches!(sub.rename(alloc, &d, &below)?, Answer::Loop));
+    assert!(rt; matches!(sub.rename(alloc, &d, &root)?, Answer::Loop));
+    assert!(rt; matches!(sub.rename(alloc, &b, &below)?, Answer::Plain));
+    assert!(rt; matches!(sub.rename(alloc, &e, &d)?, Answer::NotEmpty));
+    assert!(rt; matches!(sub.rename(alloc, &d, &deep)?, Answer::NotDir));
+    assert!(rt; matches!(sub.rename(alloc, &d, &e)?, Answer::Plain));
+    assert!(rt; sub.kind(260) == None);
+    assert!(rt; matches!(sub.rename(alloc, &e, &d)?, Answer::Plain));
+    assert!(rt; matches!(sub.link(alloc, &below, &a)?, Answer::Plain));
+    assert!(rt; matches!(sub.rename(alloc, &a, &below)?, Answer::Plain));
+    assert!(rt; matches!(sub.exchange(alloc, &a, &below)?, Answer::Plain));
+    assert_eq!(rt; sub.last_index, 10);
+    assert!(rt; matches!(sub.exchange(alloc, &d, &below)?, Answer::Loop));
+    assert!(rt; matches!(sub.exchange(alloc, &d, &b)?, Answer::NoEnt));
+    assert!(rt; matches!(sub.exchange(alloc, &d, &a)?, Answer::Plain));
+    assert!(rt; matches!(sub.lookup(&a), Answer::Number(259)));
+    assert!(rt; matches!(sub.lookup(&d), Answer::Number(257)));
+    assert_eq!(rt; sub.last_index, 12);
+    Ok(())
+}

@@ -1,5 +1,5 @@
 -- What holds of a volume's subvolumes, after an edit of one and in a bare volume.
-use Rattle.std.proofs.Common.{◌≡◌, ℕ, zero, suc, ◌<◌, ◌≤◌, ◌+◌, Bool, true, ◌&&◌, List, [], ◌∷◌, map, set, length, get_or, Some, refl, sym, ap, subst, ◌∙◌, arith}
+use Rattle.std.proofs.Common.{◌≡◌, ℕ, zero, suc, ◌<◌, ◌≤◌, ◌+◌, true, ◌&&◌, List, [], ◌∷◌, map, set, length, get_or, Some, refl, sym, ap, subst, ◌∙◌, arith}
 use Rattle.std.specs.Ordering.{nat_cmp, is_lt}
 use Rattle.std.specs.declared.cmp.Ordering.TheVariants.{Less}
 use Rattle.std.specs.Cmp.{nat_cmp_is}
@@ -9,9 +9,8 @@ use Rattle.std.specs.FinMap.{is_sorted}
 use Rattle.std.specs.FinMap.Entries.{below_all}
 use Rattle.std.proofs.lemmas.Bool.{and_from}
 use Rattle.std.proofs.lemmas.List.Elements.{All-set}
-use Rattle.flat_model.specs.Volume.{RunSub, subvolume_ids}
 use Rattle.flat_sub.specs.declared.sub.FlatSub.{FlatSub}
-use Rattle.flat_sub.specs.View.{IsWellKept, sub_view}
+use Rattle.flat_sub.specs.View.{IsWellKept}
 use Rattle.flat_volume.specs.View.{AreWellKept}
 use Rattle.flat_record.proofs.Tables.{position_below}
 use Rattle.flat_volume.proofs.Bare.{seen, listed, bare_entry}

@@ -1,0 +1,5 @@
+pub mod Kinds
+pub mod Words
+pub mod Paths
+pub mod Script
+pub mod Parts

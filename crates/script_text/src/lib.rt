@@ -1,0 +1,19 @@
+//! Scripts as texts: bytes are read to the lines of a script, or to the script's first fault.
+//!
+//! A script is lines that end in LF. A line is empty, a comment from `#` on, or words with one space between them: a
+//! caller from 1 to 16, a verb and its arguments. The verbs are `create PATH`, `write PATH OFFSET TEXT` and `sync`.
+#![tactic(auto)]
+
+mod fault;
+mod line;
+mod number;
+mod parts;
+mod path;
+mod request;
+mod script;
+#[cfg(test)]
+mod tests;
+mod text;
+
+pub use fault::{ScriptFault, ScriptKind};
+pub use script::{Line, Request, Script, parse};

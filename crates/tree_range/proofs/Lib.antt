@@ -1,0 +1,14 @@
+pub mod Rise
+pub mod Under
+pub mod Bodies
+pub mod Law
+pub mod Local
+pub mod Ways
+mod Cuts
+mod Children
+mod Found
+mod Spots
+mod Looked
+mod Walked
+mod Parts
+mod Times

@@ -1,0 +1,5 @@
+pub mod Shape
+pub mod Between
+pub mod Path
+pub mod Spot
+pub mod Part
