@@ -1,3 +1,5 @@
-pub mod SizedBlocks
-pub mod RecordView
+pub mod AttributeShares
 pub mod NewRecord
+pub mod Reading
+pub mod RecordView
+pub mod SizedBlocks

@@ -1,17 +1,18 @@
 //! The attributes of an inode.
-ghost use Rattle.std.specs.Prelude.{◌≡◌, ◌<◌, ◌+◌, ℕ, List, cond, position, length, vec_len, vec_capacity, nat_lt, filter, not, bytes_eq, is_some, IsTrue, IfOk, OnOk, OnErr, sum_by, nat_eq, ◌&&◌, min, ◌^◌, ◌-◌};
+ghost use Rattle.std.specs.Prelude.{◌≡◌, ◌<◌, ◌≤◌, ◌↔◌, ℕ, List, position, length, slice_index_or, vec_len, vec_capacity, nat_lt, bytes_eq, is_some, IsTrue, IfOk, OnOk, OnErr};
 ghost use Rattle.std.specs.Ordering.{nat_cmp, is_le};
 ghost use Rattle.std.specs.Cmp.Lexicographic.{slice_cmp};
-ghost use Rattle.std.specs.FinMap.{get, insert, remove, put};
+ghost use Rattle.std.specs.FinMap.{entries, get, insert, remove, put};
 ghost use Rattle.blk_base.specs.Crc.{name_hash_of};
+ghost use Rattle.flat_model.specs.Coherent.{KeepAttributeLimits};
 ghost use Rattle.flat_model.specs.Lengths.{most_item_bytes, xattr_item_length};
 
+use crate::attribute_items::{
+    are_same, copy_attributes, do_fit, do_keep_limits, entry_bytes, fits, item_bytes,
+};
 use blk_base::{Name, OutOfMemory, Text, name_hash};
 use std::alloc::Global;
 use std::marker::Model;
-
-/// The most bytes of one item in a leaf ("Header" of the on-disk format).
-const MOST_ITEM_BYTES: u64 = 3970;
 
 /// The attributes of an inode by their names, in the order of the names' bytes.
 #[derive(Drop)]
@@ -131,5 +132,58 @@ impl AttributeTable {
         ensures { self.new ≡ remove self.old name.now }
     {
         self.entries.retain(|entry| entry.0 != *name);
+    }
+
+    /// Whether the item that an attribute asks for would have more bytes than a leaf holds, once it had this value.
+    pub(crate) fn is_crowded(&self, name: &Name, value: &Text) -> bool
+        ensures { result ≡ nat_lt most_item_bytes (xattr_item_length (insert self.now name.now value.now) (name_hash_of name.now)) }
+    {
+        let more = entry_bytes(name, value);
+        !fits(item_bytes(&self.entries, name_hash(name.as_bytes()), Some(name), more))
+    }
+
+    /// Whether no item that the attributes ask for has more bytes than a leaf holds.
+    pub(crate) fn do_fit(&self) -> bool
+        ensures { IsTrue result ↔ ((hash : ℕ) → xattr_item_length self.now hash ≤ most_item_bytes) }
+    {
+        do_fit(&self.entries)
+    }
+
+    /// Whether the attributes keep their limits.
+    pub(crate) fn do_keep_limits(&self) -> bool
+        ensures { IsTrue result ↔ KeepAttributeLimits self.now }
+    {
+        do_keep_limits(&self.entries)
+    }
+
+    /// Whether another table has the same attributes.
+    pub(crate) fn is_same(&self, other: &AttributeTable) -> bool
+        ensures { IsTrue result ↔ (self.now ≡ other.now) }
+    {
+        are_same(&self.entries, &other.entries)
+    }
+
+    /// The same attributes once more. Fails only for want of memory.
+    pub(crate) fn copy(&self, alloc: Global) -> Result<AttributeTable, OutOfMemory>
+        ensures { IfOk result (λ table. table ≡ self.now) }
+    {
+        let entries = copy_attributes(alloc, &self.entries)?;
+        Ok(AttributeTable { entries })
+    }
+
+    /// How many attributes there are.
+    pub(crate) fn len(&self) -> usize
+        ensures { result ≡ length (entries self.now) }
+    {
+        self.entries.len()
+    }
+
+    /// The name and the value of the attribute at this place, counted from 0 in the order of the names.
+    pub(crate) fn entry(&self, place: usize) -> (&Name, &Text)
+        requires { place < length (entries self.now) }
+        ensures { (result.0.now, result.1.now) ≡ slice_index_or (entries self.now) place (result.0.now, result.1.now) }
+    {
+        let entry = &self.entries[place];
+        (&entry.0, &entry.1)
     }
 }

@@ -61,6 +61,15 @@ impl FileBlock {
         }
     }
 
+    /// A block of its own with these 4096 bytes. Fails only for want of memory.
+    pub(crate) fn copy_of(alloc: Global, bytes: &[u8]) -> Result<FileBlock, OutOfMemory>
+        requires { length bytes.now ≡ 4096 }
+        ensures { IfOk result (λ block. block ≡ bytes.now) }
+    {
+        let bytes = Vec::from_slice(alloc, bytes)?;
+        Ok(FileBlock { bytes })
+    }
+
     /// The same block once more. Fails only for want of memory.
     pub(crate) fn copy(&self, alloc: Global) -> Result<FileBlock, OutOfMemory>
         ensures { IfOk result (λ block. block ≡ self.now) }

@@ -1,13 +1,20 @@
 //! A file: its size and its blocks.
-ghost use Rattle.std.specs.Prelude.{◌≡◌, ◌<◌, ◌≤◌, ◌+◌, ℕ, List, length, IfOk, OnOk, OnErr};
+ghost use Rattle.std.specs.Prelude.{◌≡◌, ◌<◌, ◌≤◌, ◌+◌, ◌↔◌, ℕ, List, length, slice_index_or, IsTrue, IfOk, OnOk, OnErr};
+ghost use Rattle.std.specs.FinMap.{entries, insert};
 ghost use Rattle.flat_model.specs.Records.{Attributes};
 ghost use Rattle.flat_model.specs.Contents.{most_file_bytes, bytes_read, written, truncated};
+ghost use Rattle.flat_model.specs.Coherent.{KeepsFileLimits};
 
 use crate::block::FileBlock;
+use crate::block_limits::{are_same, copy_blocks, do_keep_limits};
 use crate::blocks::{cut_block_at, keep_below, put_blocks, read_block, written_blocks};
-use blk_base::{OutOfMemory, Text};
+use crate::table::put_entry;
+use blk_base::{Block, OutOfMemory, Text};
 use std::alloc::Global;
 use std::marker::Model;
+
+/// The most bytes of a file (own).
+const MOST_FILE_BYTES: u64 = 16_777_216;
 
 /// A file: its size in bytes, and the blocks that are no holes, by their numbers in rising order.
 #[derive(Drop)]
@@ -93,5 +100,68 @@ impl File {
             at = stop;
         }
         Text::new(alloc, bytes.as_slice())
+    }
+
+    /// Puts a block of 4096 bytes in, in place of the one of this number.
+    pub(crate) fn put_block(
+        &mut self,
+        alloc: Global,
+        number: u64,
+        bytes: &Block,
+    ) -> Result<(), OutOfMemory>
+        ensures ok { OnOk result (self.new ≡ record { size = self.old.size; blocks = insert self.old.blocks number bytes.now }) }
+        ensures err { OnErr result (self.new ≡ self.old) }
+    {
+        let block = FileBlock::copy_of(alloc, bytes)?;
+        self.blocks.reserve(1)?;
+        put_entry(&mut self.blocks, number, block);
+        Ok(())
+    }
+
+    /// Whether the file keeps its limits.
+    pub(crate) fn keeps_limits(&self) -> bool
+        ensures { (attributes : Attributes) → IsTrue result ↔ KeepsFileLimits (file_of attributes self.now) }
+    {
+        if self.size > MOST_FILE_BYTES {
+            return false;
+        }
+        do_keep_limits(&self.blocks, self.size)
+    }
+
+    /// Whether another file has the same size and blocks.
+    pub(crate) fn is_same(&self, other: &File) -> bool
+        ensures { IsTrue result ↔ (self.now ≡ other.now) }
+    {
+        if self.size != other.size {
+            return false;
+        }
+        are_same(&self.blocks, &other.blocks)
+    }
+
+    /// The same file once more. Fails only for want of memory.
+    pub(crate) fn copy(&self, alloc: Global) -> Result<File, OutOfMemory>
+        ensures { IfOk result (λ file. file ≡ self.now) }
+    {
+        let blocks = copy_blocks(alloc, &self.blocks)?;
+        Ok(File {
+            size: self.size,
+            blocks,
+        })
+    }
+
+    /// How many blocks are no holes.
+    pub(crate) fn block_count(&self) -> usize
+        ensures { result ≡ length (entries self.now.blocks) }
+    {
+        self.blocks.len()
+    }
+
+    /// The number and the bytes of the block at this place, counted from 0 in the order of the numbers.
+    pub(crate) fn block(&self, place: usize) -> (u64, &[u8])
+        requires { place < length (entries self.now.blocks) }
+        ensures { (result.0, result.1.now) ≡ slice_index_or (entries self.now.blocks) place (result.0, result.1.now) }
+    {
+        let entry = &self.blocks[place];
+        (entry.0, entry.1.as_bytes())
     }
 }

@@ -1,8 +1,10 @@
 //! An inode apart from its names: its attributes, and the blocks of a file or the target of a symlink.
 #![tactic(auto)]
 
+mod attribute_items;
 mod attributes;
 mod block;
+mod block_limits;
 mod blocks;
 mod file;
 mod record;

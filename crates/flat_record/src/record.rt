@@ -1,13 +1,17 @@
-ghost use Rattle.std.specs.Prelude.{◌≡◌, ◌≤◌, ◌+◌, ℕ, List, length, is_some, Some, IfOk, OnOk, OnErr};
-ghost use Rattle.std.specs.FinMap.{get, insert, remove};
-ghost use Rattle.flat_model.specs.Records.{InodeRecord, FileInode, kind_of, attributes_of, with_attributes};
+ghost use Rattle.std.specs.Prelude.{◌≡◌, ◌<◌, ◌≤◌, ◌+◌, ◌↔◌, ℕ, List, length, nat_lt, slice_index_or, option_copied, is_some, Some, IsTrue, IfOk, OnOk, OnErr};
+ghost use Rattle.std.specs.FinMap.{entries, get, insert, remove};
+ghost use Rattle.blk_base.specs.Crc.{name_hash_of};
+ghost use Rattle.flat_model.specs.Lengths.{most_item_bytes, xattr_item_length};
+ghost use Rattle.flat_model.specs.Coherent.{KeepsLimits, KeepsLinkLimits};
+ghost use Rattle.flat_record.specs.Reading.{target_of, with_block};
+ghost use Rattle.flat_model.specs.Records.{InodeRecord, LinkRecord, FileInode, kind_of, attributes_of, with_attributes};
 ghost use Rattle.flat_model.specs.Contents.{most_file_bytes, bytes_read, written, truncated};
 ghost use Rattle.flat_model.specs.Operations.{file_there};
 ghost use Rattle.flat_model.specs.declared.view.Kind.TheVariants as kinds;
 
 use crate::attributes::AttributeTable;
 use crate::file::File;
-use blk_base::{Name, OutOfMemory, Text};
+use blk_base::{Block, Name, OutOfMemory, Text};
 use flat_model::Kind;
 use std::alloc::Global;
 use std::marker::Model;
@@ -41,6 +45,14 @@ impl Model for Inode {
     ghost use Rattle.flat_record.specs.RecordView.{record_view};
 
     ghost view = { λ inode. record_view inode.attributes inode.contents };
+}
+
+/// Whether a symlink's target keeps its limits: 1 to 1023 bytes (own limits).
+fn is_target(target: &Text) -> bool
+    ensures { (link : LinkRecord) → link.target ≡ target.now → IsTrue result ↔ KeepsLinkLimits link }
+{
+    let length = target.len();
+    1 <= length && length <= 1023
 }
 
 impl Inode {
@@ -154,5 +166,135 @@ impl Inode {
         ensures { self.new ≡ with_attributes self.old (remove (attributes_of self.old) name.now) }
     {
         self.attributes.remove(name);
+    }
+
+    /// Whether the XATTR_ITEM item that an attribute asks for would have more bytes than a leaf holds, once it had this
+    /// value ("XATTR_ITEM", "Header"). Takes no memory.
+    pub fn is_attribute_crowded(&self, name: &Name, value: &Text) -> bool
+        ensures { result ≡ nat_lt most_item_bytes (xattr_item_length (insert (attributes_of self.now) name.now value.now) (name_hash_of name.now)) }
+    {
+        self.attributes.is_crowded(name, value)
+    }
+
+    /// Whether no XATTR_ITEM item that the attributes ask for has more bytes than a leaf holds ("XATTR_ITEM", "Header").
+    pub fn attributes_fit(&self) -> bool
+        ensures { IsTrue result ↔ ((hash : ℕ) → xattr_item_length (attributes_of self.now) hash ≤ most_item_bytes) }
+    {
+        self.attributes.do_fit()
+    }
+
+    /// Puts a block of 4096 bytes into a file, in place of the one of this number ("EXTENT_DATA"). Fails only for want of
+    /// memory.
+    pub fn put_block(
+        &mut self,
+        alloc: Global,
+        number: u64,
+        bytes: &Block,
+    ) -> Result<(), OutOfMemory>
+        requires { kind_of self.old ≡ kinds.File }
+        ensures ok { OnOk result (self.new ≡ FileInode (with_block (file_there (Some self.old)) number bytes.now)) }
+        ensures err { OnErr result (self.new ≡ self.old) }
+    {
+        match &mut self.contents {
+            Contents::File(file) => file.put_block(alloc, number, bytes),
+            Contents::Dir => unreachable!(),
+            Contents::Link(_) => unreachable!(),
+        }
+    }
+
+    /// Whether the inode keeps its limits (own limits).
+    pub fn keeps_limits(&self) -> bool
+        ensures { IsTrue result ↔ KeepsLimits self.now }
+    {
+        if !self.attributes.do_keep_limits() {
+            return false;
+        }
+        match &self.contents {
+            Contents::File(file) => file.keeps_limits(),
+            Contents::Dir => true,
+            Contents::Link(target) => is_target(target),
+        }
+    }
+
+    /// Whether another inode has the same record.
+    pub fn is_same(&self, other: &Inode) -> bool
+        ensures { IsTrue result ↔ (self.now ≡ other.now) }
+    {
+        if !self.attributes.is_same(&other.attributes) {
+            return false;
+        }
+        match (&self.contents, &other.contents) {
+            (Contents::File(one), Contents::File(two)) => one.is_same(two),
+            (Contents::Dir, Contents::Dir) => true,
+            (Contents::Link(one), Contents::Link(two)) => *one == *two,
+            _ => false,
+        }
+    }
+
+    /// The same inode once more. Fails only for want of memory.
+    pub fn copy(&self, alloc: Global) -> Result<Inode, OutOfMemory>
+        ensures { IfOk result (λ inode. inode ≡ self.now) }
+    {
+        let attributes = self.attributes.copy(alloc)?;
+        let contents = match &self.contents {
+            Contents::File(file) => Contents::File(file.copy(alloc)?),
+            Contents::Dir => Contents::Dir,
+            Contents::Link(target) => Contents::Link(target.copy(alloc)?),
+        };
+        Ok(Inode {
+            attributes,
+            contents,
+        })
+    }
+
+    /// How many blocks of a file are no holes; 0 where it is no file ("EXTENT_DATA").
+    pub fn block_count(&self) -> usize
+        ensures { result ≡ length (entries (file_there (Some self.now)).blocks) }
+    {
+        match &self.contents {
+            Contents::File(file) => file.block_count(),
+            Contents::Dir => 0,
+            Contents::Link(_) => 0,
+        }
+    }
+
+    /// The number and the 4096 bytes of a file's block at this place, counted from 0 in the order of the numbers
+    /// ("EXTENT_DATA").
+    pub fn block(&self, place: usize) -> (u64, &[u8])
+        requires { place < length (entries (file_there (Some self.now)).blocks) }
+        ensures { (result.0, result.1.now) ≡ slice_index_or (entries (file_there (Some self.now)).blocks) place (result.0, result.1.now) }
+    {
+        match &self.contents {
+            Contents::File(file) => file.block(place),
+            Contents::Dir => unreachable!(),
+            Contents::Link(_) => unreachable!(),
+        }
+    }
+
+    /// How many attributes the inode has ("XATTR_ITEM").
+    pub fn attribute_count(&self) -> usize
+        ensures { result ≡ length (entries (attributes_of self.now)) }
+    {
+        self.attributes.len()
+    }
+
+    /// The name and the value of the attribute at this place, counted from 0 in the order of the names' bytes
+    /// ("XATTR_ITEM").
+    pub fn attribute_at(&self, place: usize) -> (&Name, &Text)
+        requires { place < length (entries (attributes_of self.now)) }
+        ensures { (result.0.now, result.1.now) ≡ slice_index_or (entries (attributes_of self.now)) place (result.0.now, result.1.now) }
+    {
+        self.attributes.entry(place)
+    }
+
+    /// The target of a symlink, and none of another inode (inline "EXTENT_DATA").
+    pub fn target(&self) -> Option<&Text>
+        ensures { option_copied result ≡ target_of self.now }
+    {
+        match &self.contents {
+            Contents::File(_) => None,
+            Contents::Dir => None,
+            Contents::Link(target) => Some(target),
+        }
     }
 }
