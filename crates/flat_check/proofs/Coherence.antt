@@ -1,12 +1,12 @@
 -- A subvolume is coherent exactly where its names are in order, inode 256 is a directory, and each name and each inode is right.
-use Rattle.std.proofs.Common.{◌≡◌, ◌≢◌, ℕ, ◌≤◌, Bool, true, false, ◌&&◌, not, List, [], ◌∷◌, length, Option, Some, None, IsTrue, refl, sym, ap, subst, ◌∙◌, arith, inl, inr, ◌⊎◌}
+use Rattle.std.proofs.Common.{◌≡◌, ℕ, ◌≤◌, Bool, true, ◌&&◌, not, List, [], ◌∷◌, length, Option, Some, None, refl, sym, ap, subst, ◌∙◌, arith}
 use Rattle.std.specs.Bool.{nat_eq}
 use Rattle.std.specs.Option.{is_some}
 use Rattle.std.specs.List.{Contains, filter, sum_by}
 use Rattle.std.specs.FinMap.{get}
 use Rattle.std.proofs.lemmas.Bool.{true≢false, and_parts, and_from, eqb-true, eq-eqb}
 use Rattle.blk_base.specs.Crc.{name_hash_of, extref_hash_of}
-use Rattle.flat_model.specs.Records.{InodeRecord, is_dir_record}
+use Rattle.flat_model.specs.Records.{InodeRecord}
 use Rattle.flat_model.specs.Names.{FlatName, is_name_set, is_in_slot}
 use Rattle.flat_model.specs.Lengths.{most_item_bytes, ref_length, extref_length, entry_length, ref_item_length, extref_item_length, dir_item_length}
 use Rattle.flat_model.specs.Volume.{Subvolume, is_dir_at, is_dir_there}
@@ -15,7 +15,7 @@ use Rattle.flat_model.proofs.Lists.{contains_head, contains_tail, contains_none,
 use Rattle.flat_model.proofs.NameSets.{is_name_set_filter, set_head_once}
 use Rattle.flat_model.proofs.Ways.{one_member, dir_record, is_in_slot_from, is_in_slot_gives}
 use Rattle.flat_model.proofs.Edits.{link_fits}
-use Rattle.flat_check.specs.Parts.{IsPlaced, IsAlone, HasItemsThatFit, IsRightName, IsRightInode, is_at_index}
+use Rattle.flat_check.specs.Parts.{IsAlone, HasItemsThatFit, IsRightName, IsRightInode, is_at_index}
 use Rattle.flat_check.proofs.Steps.{way_from, coherent_reaches}
 
 -- ---- at most one name

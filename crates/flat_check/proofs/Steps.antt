@@ -1,12 +1,12 @@
 -- Facts on steps up to the root directory.
-use Rattle.std.proofs.Common.{◌≡◌, ◌≢◌, ℕ, zero, suc, ◌≤◌, ◌<◌, ◌-◌, Bool, true, false, cond, ◌||◌, List, [], ◌∷◌, length, Option, Some, None, refl, sym, ap, subst, ◌∙◌, arith, inl, inr, ◌⊎◌}
+use Rattle.std.proofs.Common.{◌≡◌, ◌≢◌, ℕ, zero, suc, ◌≤◌, Bool, true, false, ◌||◌, List, [], ◌∷◌, length, Option, Some, None, refl, sym, ap, subst, ◌∙◌, arith, inl, inr, ◌⊎◌}
 use Rattle.std.specs.Bool.{nat_eq}
 use Rattle.std.specs.List.{Contains, find}
 use Rattle.std.proofs.lemmas.Bool.{true≢false, eqb-true, eq-eqb, ne_eqb, cases_eq}
 use Rattle.flat_model.specs.Names.{FlatName, leads_to, is_name_set, remove_name}
 use Rattle.flat_model.specs.Volume.{Subvolume, is_dir_at}
 use Rattle.flat_model.specs.Coherent.{IsCoherent, LeadsUp}
-use Rattle.flat_model.proofs.Lists.{contains_head, contains_tail, contains_none, contains_cases}
+use Rattle.flat_model.proofs.Lists.{contains_head, contains_tail}
 use Rattle.flat_model.proofs.NameSets.{is_name_set_remove, remove_name_keeps, length_remove_name}
 use Rattle.flat_model.proofs.Ways.{find_some, find_none, dir_name_once, dir_of_name, way_avoids_own, way_names}
 use Rattle.flat_check.specs.Parts.{dir_or, dir_above, reaches_root}

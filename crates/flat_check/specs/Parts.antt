@@ -1,5 +1,5 @@
 -- Coherence taken apart: what holds of each name and of each inode, and the steps from a directory up to the root directory.
-use Rattle.std.specs.Prelude.{◌≡◌, ◌≢◌, ℕ, zero, suc, ◌≤◌, Bool, ◌&&◌, ◌||◌, List, Option, Some, None, length, filter, find, is_some, IsTrue, nat_eq}
+use Rattle.std.specs.Prelude.{◌≢◌, ℕ, zero, suc, ◌≤◌, Bool, ◌&&◌, ◌||◌, List, Option, Some, None, length, filter, find, is_some, IsTrue, nat_eq}
 use Rattle.std.specs.FinMap.{get}
 use Rattle.blk_base.specs.Crc.{name_hash_of, extref_hash_of}
 use Rattle.flat_model.specs.Records.{InodeRecord, is_dir_record, attributes_of}

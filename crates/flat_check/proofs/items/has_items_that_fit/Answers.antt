@@ -1,10 +1,7 @@
-use Rattle.std.proofs.Common.{◌≡◌, ◌≤◌, ℕ, List, Bool, true, sym, ap, ◌∙◌}
-use Rattle.std.specs.Bool.{nat_le}
-use Rattle.std.proofs.lemmas.Bool.{true≢false, leb-true, le-leb}
+use Rattle.std.proofs.Common.{List, sym, ◌∙◌}
+use Rattle.std.proofs.lemmas.Bool.{true≢false}
 use Rattle.flat_model.specs.Names.{FlatName}
 use Rattle.flat_model.specs.declared.view.NameAt.{NameAt}
-use Rattle.flat_model.specs.Lengths.{ref_item_length, extref_item_length, dir_item_length}
-use Rattle.blk_base.specs.Crc.{name_hash_of, extref_hash_of}
 use Rattle.flat_sub.specs.View.{names_view}
 use Rattle.flat_check.proofs.Fitting.{ref_fits, extref_fits, entry_fits}
 use Rattle.flat_check.proofs.items.has_items_that_fit.Goals as goal
