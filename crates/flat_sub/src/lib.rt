@@ -1,6 +1,7 @@
 //! A subvolume of a flat volume, and what the operations on names make of it.
 #![tactic(auto)]
 
+mod content;
 mod list;
 mod making;
 mod moving;

@@ -1,7 +1,9 @@
 -- What a block that is known to be a leaf or a node lists, and what a table then shows of it.
-use Rattle.std.proofs.Common.{◌≡◌, ◌≤◌, ◌∙◌, ◌++◌, ℕ, List, length, length-append, ap, sym, refl, arith, Result, Ok, Err, IsOk}
+use Rattle.std.proofs.Common.{◌≡◌, ◌≤◌, ◌∙◌, ◌++◌, ℕ, List, length, length-append, ap, sym, refl, arith, Result, Ok, Err, IsOk, zero, suc, [], ◌∷◌, Some, slice_get}
 use Rattle.blk_base.specs.declared.fault.BlockFault.{BlockFault}
 use Rattle.blk_base.specs.Leaf.{Item, Pointer, leaf_body_of, node_body_of}
+use Rattle.leaf_view.specs.Search.{contents_of}
+use Rattle.leaf_edit.specs.Written.{data_at}
 use Rattle.leaf_view.proofs.NodeLaws.{node_body_means}
 use Rattle.block_table.specs.declared.state.SlotState.TheVariants.{Dirty}
 use Rattle.block_table.specs.Table.{Table}
@@ -35,6 +37,12 @@ leaf_shown table at bytes items same h = ap leaf_list same ∙ leaf_list-is byte
 pub leaf_dirty : (table : Table) (at : ℕ) (bytes : List ℕ) (items : List Item) → (block_at table at).state ≡ Dirty → (block_at table at).bytes ≡ bytes → leaf_body_of bytes ≡ Ok items → IsDirtyLeaf table at
 leaf_dirty table at bytes items dirty same h =
     record { dirty = dirty; body = leaf_block (block_at table at).bytes items (ap leaf_body_of same ∙ h) }
+
+-- the data of the item at a place, as a view of the leaf shows them
+pub data_shown : (items : List Item) (place : ℕ) (content : List ℕ) → slice_get (contents_of items) place ≡ Some content → content ≡ data_at items place
+data_shown [] place content h = absurd (cc)
+data_shown (item ∷ items) zero content h = cc
+data_shown (item ∷ items) (suc place) content h = data_shown items place content h
 
 -- ---- nodes
 

@@ -2,6 +2,7 @@ ghost use Rattle.std.specs.Prelude.{◌≡◌, ◌≢◌, ◌≤◌, ◌<◌, �
 ghost use Rattle.blk_base.specs.Keys.{key_below, keys_rise};
 ghost use Rattle.blk_base.specs.Leaf.{data_of, room_of};
 ghost use Rattle.leaf_view.specs.Search.{keys_of, contents_of, pointer_keys, children_of, IsPlace};
+ghost use Rattle.leaf_edit.specs.Written.{data_at};
 ghost use Rattle.block_table.specs.Table.{state_at};
 ghost use Rattle.tree_blocks.specs.Steps.{IsLeafAt, IsNodeAt, leaf_at, node_at};
 
@@ -69,7 +70,8 @@ pub fn leaf_data(table: &BlockTable, at: Addr, place: usize) -> &[u8]
     requires taken { state_at table.now at ≢ SlotState.Free }
     requires leaf { IsLeafAt table.now at.0 }
     requires within { place < length (leaf_at table.now at.0) }
-    ensures { slice_get (contents_of (leaf_at table.now at.0)) place ≡ Some result.now }
+    ensures value { result.now ≡ data_at (leaf_at table.now at.0) place }
+    ensures listed { slice_get (contents_of (leaf_at table.now at.0)) place ≡ Some result.now }
 {
     LeafView::of_body(table.block(at)).data(place)
 }

@@ -1,9 +1,9 @@
 -- What a search in the leaf where a key belongs says of the tree.
-use Rattle.std.proofs.Common.{◌≡◌, ◌≤◌, ◌<◌, ◌+◌, ℕ, zero, suc, Bool, true, false, List, [], ◌∷◌, ◌++◌, length, map, take, drop, slice_get, refl, ap, ◌∙◌, sym, subst, Option, Some, None, inl, inr, arith, append_assoc}
+use Rattle.std.proofs.Common.{◌≡◌, ◌<◌, ℕ, zero, suc, Bool, true, false, List, [], ◌∷◌, ◌++◌, length, take, drop, slice_get, ap, ◌∙◌, sym, subst, Some, None, inl, inr, arith, append_assoc}
 use Rattle.std.specs.Prelude.{All, Contains, slice_index_or, option_map, if◌then◌else◌}
 use Rattle.std.proofs.lemmas.Bool.{cases_Bool}
 use Rattle.std.proofs.lemmas.List.{length-map, take-map, drop-map, append-nil, take-append-drop}
-use Rattle.std.proofs.lemmas.List.Elements.{All-append, All-same, All-weaker, All-contains}
+use Rattle.std.proofs.lemmas.List.Elements.{All-append, All-same, All-contains}
 use Rattle.std.proofs.lemmas.Option.{slice_get-map, slice_get_within}
 use Rattle.blk_base.specs.declared.key.Key.{Key}
 use Rattle.blk_base.specs.Keys.{KeyBelow, key_below}

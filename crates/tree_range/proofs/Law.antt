@@ -1,12 +1,12 @@
 -- A tree stands in a table by the relation exactly where it does by functions of the table.
-use Rattle.std.proofs.Common.{◌≡◌, ◌≤◌, ℕ, zero, suc, Bool, true, false, List, [], ◌∷◌, ◌++◌, length, refl, ap, ◌∙◌, sym, subst, Option, Some, Result, Ok, IsOk}
-use Rattle.std.specs.Prelude.{All, ◌↔◌}
+use Rattle.std.proofs.Common.{◌≡◌, ◌≤◌, ℕ, zero, suc, Bool, true, false, List, [], ◌∷◌, ◌++◌, length, refl, ap, ◌∙◌, sym, subst, Some}
+use Rattle.std.specs.Prelude.{All}
 use Rattle.std.specs.List.{flat_map}
 use Rattle.std.proofs.lemmas.List.Elements.{All-nil, All-cons, All-head, All-tail}
-use Rattle.blk_base.specs.Leaf.{Item, Pointer, IsLeafBody, IsNodeBody, leaf_body_of, node_body_of}
+use Rattle.blk_base.specs.Leaf.{Item, Pointer, leaf_body_of, node_body_of}
 use Rattle.block_table.specs.declared.tree.Tree.{Tree}
 use Rattle.block_table.specs.Table.{Table}
-use Rattle.block_table.specs.TreeIn.{AreChildren, IsSubtreeIn, IsTaken, IsTreeIn, ItemsRise, NoneTwice, block_at, first_key, least_items, least_pointers}
+use Rattle.block_table.specs.TreeIn.{AreChildren, IsSubtreeIn, IsTreeIn, ItemsRise, NoneTwice, block_at, first_key, least_items, least_pointers}
 use Rattle.leaf_view.proofs.LeafLaws.{leaf_body_means, leaf_body_from}
 use Rattle.leaf_view.proofs.NodeLaws.{node_body_means, node_body_from}
 use Rattle.tree_range.specs.Shape.{IsSubtree, IsTree, items_below, reach_below, leaf_items, node_pointers, tree_items, tree_reach}

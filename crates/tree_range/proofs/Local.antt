@@ -1,15 +1,14 @@
 -- What stands below a block depends on the blocks that it reaches alone.
-use Rattle.std.proofs.Common.{◌≡◌, ◌≢◌, ◌≤◌, ◌<◌, ◌/◌, ℕ, zero, suc, Bool, true, false, List, [], ◌∷◌, ◌++◌, length, refl, ap, ◌∙◌, sym, subst, Option, Some, IsOk}
+use Rattle.std.proofs.Common.{◌≡◌, ◌≢◌, ◌≤◌, ℕ, zero, suc, Bool, true, false, List, [], ◌∷◌, ◌++◌, length, refl, ap, ◌∙◌, sym, subst, Some, IsOk}
 use Rattle.std.specs.Prelude.{All}
 use Rattle.std.specs.List.{flat_map}
 use Rattle.std.proofs.lemmas.List.Elements.{All-nil, All-cons, All-head, All-tail, All-weaker}
-use Rattle.blk_base.specs.Address.{IsAllowed}
 use Rattle.blk_base.specs.Leaf.{Item, Pointer, leaf_body_of, node_body_of}
 use Rattle.block_table.specs.declared.state.SlotState.{SlotState}
 use Rattle.block_table.specs.declared.state.SlotState.TheVariants.{Free, Dirty, Sealed, Live, LetGo}
 use Rattle.block_table.specs.declared.tree.Tree.{Tree}
 use Rattle.block_table.specs.Slot.{BlockSlot, is_free}
-use Rattle.block_table.specs.Table.{Table, slot_at}
+use Rattle.block_table.specs.Table.{Table}
 use Rattle.block_table.specs.TreeIn.{IsTaken, ItemsRise, NoneTwice, block_at, first_key, least_items, least_pointers}
 use Rattle.block_table.proofs.Kept.{found}
 use Rattle.std.specs.Prelude.{slice_index_or}

@@ -1,8 +1,8 @@
 -- Places of items in leaves of a tree, and the items that are left from there on.
-use Rattle.std.proofs.Common.{◌≡◌, ◌≤◌, ◌<◌, ◌+◌, ℕ, zero, suc, Bool, true, false, List, [], ◌∷◌, ◌++◌, length, map, take, drop, slice_get, refl, ap, ◌∙◌, sym, subst, Option, Some, None, inl, inr, arith, append_assoc, add-one}
+use Rattle.std.proofs.Common.{◌≡◌, ◌≤◌, ◌<◌, ◌+◌, ℕ, zero, suc, false, List, [], ◌∷◌, ◌++◌, length, take, drop, slice_get, refl, ap, ◌∙◌, sym, subst, Option, Some, None, inl, inr, arith, append_assoc}
 use Rattle.std.specs.Prelude.{All}
 use Rattle.std.proofs.lemmas.Bool.{cases_lt}
-use Rattle.std.proofs.lemmas.List.{take-append-drop, length-take}
+use Rattle.std.proofs.lemmas.List.{take-append-drop}
 use Rattle.std.proofs.lemmas.List.Elements.{All-append, All-head}
 use Rattle.std.proofs.lemmas.Option.{slice_get_within}
 use Rattle.blk_base.specs.declared.key.Key.{Key}
@@ -18,7 +18,7 @@ use Rattle.tree_range.specs.Between.{AreBelow, AreAbove, items_from, items_from_
 use Rattle.tree_range.specs.Path.{IsPath, IsStart, key_here}
 use Rattle.tree_range.specs.Spot.{IsItemSpot, IsSpot, leaf_rest, spot_items}
 use Rattle.tree_range.specs.declared.spot.Spot.{Spot}
-use Rattle.tree_range.proofs.Cuts.{drop_here, at_within}
+use Rattle.tree_range.proofs.Cuts.{drop_here}
 use Rattle.tree_range.proofs.Rise.{rise_right}
 use Rattle.tree_range.proofs.Under.{from_key, not_below, rest_is, up_to_none, up_to_more}
 

@@ -1,5 +1,5 @@
 -- How often a tree reaches a block.
-use Rattle.std.proofs.Common.{◌≡◌, ◌≤◌, ◌<◌, ◌+◌, ◌*◌, ◌-◌, ◌/◌, ◌%◌, min, ℕ, zero, suc, Bool, true, false, List, [], ◌∷◌, ◌++◌, length, take, slice_get, refl, ap, ◌∙◌, sym, subst, Some, Ok, arith, inl, inr, eqb}
+use Rattle.std.proofs.Common.{◌≡◌, ◌≤◌, ◌<◌, ◌+◌, ◌*◌, ◌-◌, ◌/◌, min, ℕ, zero, suc, Bool, true, false, List, [], ◌∷◌, ◌++◌, length, take, slice_get, refl, ap, ◌∙◌, sym, subst, Some, Ok, arith, inl, inr}
 use Rattle.std.specs.Prelude.{All, Contains, ◌==◌, if◌then◌else◌, slice_index_or}
 use Rattle.std.specs.List.{flat_map}
 use Rattle.std.proofs.lemmas.Bool.{cases_Bool, cases_lt, eqb-true, eq-eqb}
