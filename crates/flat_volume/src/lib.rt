@@ -3,6 +3,7 @@
 
 #[cfg(test)]
 mod tests;
+mod subvolumes;
 mod volume;
 
 pub use volume::FlatVolume;

@@ -11,7 +11,7 @@ use std::marker::Model;
 /// A flat volume in a run, seen as the volume with the greatest numbers that its subvolumes have had.
 #[derive(Drop)]
 pub struct FlatVolume {
-    subs: Vec<(u64, FlatSub)>,
+    pub(crate) subs: Vec<(u64, FlatSub)>,
 }
 
 impl Model for FlatVolume {

@@ -1,3 +1,5 @@
 pub mod Listing
 pub mod Order
 pub mod Found
+pub mod Inodes
+pub mod Parts

@@ -4,7 +4,13 @@
 //! `specs/Listing.antt` has the text, byte for byte.
 #![tactic(auto)]
 
+mod lines;
+mod listing;
 mod order;
+mod sink;
+mod stubs;
 mod text;
 mod walk;
+
+pub use listing::{ListFault, write_listing};
 
