@@ -1,1 +1,4 @@
+pub mod Files
+pub mod Limits
+pub mod Orders
 pub mod Tables

@@ -1,5 +1,5 @@
 //! Lists of entries by number, in rising order, and where an entry of a number stands in them.
-ghost use Rattle.std.specs.Prelude.{◌≡◌, ◌<◌, ◌+◌, ℕ, List, ◌==◌, nat_le, position, length, vec_len, vec_capacity, filter, not, IsTrue};
+ghost use Rattle.std.specs.Prelude.{◌≡◌, ◌<◌, ◌≤◌, ◌+◌, ℕ, List, ◌==◌, nat_le, position, length, vec_len, vec_capacity, filter, not, IsTrue};
 ghost use Rattle.std.specs.Ordering.{nat_cmp};
 ghost use Rattle.std.specs.FinMap.{from_entries, insert, remove, put, is_sorted};
 
@@ -24,6 +24,8 @@ pub fn put_entry<V: Drop>(entries: &mut Vec<(u64, V)>, key: u64, value: V)
     ensures items { entries.new.items ≡ put nat_cmp key value entries.old.items }
     ensures map { from_entries {R = nat_cmp} entries.new.items ≡ insert (from_entries entries.old.items) key value }
     ensures rising { IsTrue (is_sorted nat_cmp entries.old.items) → IsTrue (is_sorted nat_cmp entries.new.items) }
+    ensures len { vec_len entries.new ≤ vec_len entries.old + 1 }
+    ensures capacity { vec_capacity entries.old ≤ vec_capacity entries.new }
 {
     match place_from(entries, key) {
         Some(at) => {

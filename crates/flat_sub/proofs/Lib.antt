@@ -8,3 +8,5 @@ pub mod Shares
 pub mod Makings
 pub mod Movings
 pub mod Renames
+pub mod Inodes
+pub mod Contents

@@ -3,3 +3,4 @@ pub mod Building
 pub mod Ends
 pub mod Lists
 pub mod Moves
+pub mod Editing

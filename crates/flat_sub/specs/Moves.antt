@@ -1,5 +1,5 @@
 -- The steps of rename and exchange.
-use Rattle.std.specs.Prelude.{◌≡◌, ℕ, max, Bool, true, false, cond, ◌&&◌, ◌||◌, not, List, [], ◌∷◌, Option, Some, None, unwrap_or, nat_eq}
+use Rattle.std.specs.Prelude.{ℕ, max, Bool, false, cond, ◌&&◌, ◌||◌, not, List, [], ◌∷◌, Option, Some, None, unwrap_or, nat_eq}
 use Rattle.std.specs.FinMap.{FinMap, get, insert, remove}
 use Rattle.std.specs.Ordering.{nat_cmp}
 use Rattle.flat_model.specs.declared.answer.Answer.{Answer}

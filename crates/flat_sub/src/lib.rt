@@ -1,6 +1,7 @@
 //! A subvolume of a flat volume, and what the operations on names make of it.
 #![tactic(auto)]
 
+mod content;
 mod list;
 mod making;
 mod moving;
@@ -10,4 +11,5 @@ mod sub;
 mod tests;
 mod walk;
 
+pub use list::Item;
 pub use sub::FlatSub;

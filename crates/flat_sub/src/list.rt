@@ -25,7 +25,7 @@ pub(crate) struct NameList {
 
 /// An item that has entries of names.
 #[derive(Clone, Copy)]
-pub(crate) enum Item {
+pub enum Item {
     /// The INODE_REF of an inode and a directory.
     Ref { ino: u64, dir: u64 },
     /// The INODE_EXTREF of an inode and a hash.
@@ -36,7 +36,7 @@ pub(crate) enum Item {
 
 impl Item {
     /// The bytes that a name has in the item.
-    fn share(self, name: &NameAt, near: bool) -> u64
+    pub fn share(self, name: &NameAt, near: bool) -> u64
         ensures { result ≡ share_of self (name_view name.now near) }
     {
         let bytes = name.name.as_bytes();

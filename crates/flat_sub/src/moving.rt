@@ -425,20 +425,20 @@ impl FlatSub {
         list.remove_end(self, second);
         let index = self.last_index + 1;
         let other_index = self.last_index + 2;
-        let at = name_at(alloc, one, first, index, second.ino())?;
-        let other = name_at(alloc, two, second, other_index, first.ino())?;
-        let near = list.has_room_near(&at);
-        let other_near = list.has_room_near(&other);
-        list.add(at.copy(alloc)?, near)?;
-        list.add(other.copy(alloc)?, other_near)?;
-        if list.is_crowded(&at, near) {
+        let here = name_at(alloc, one, first, index, second.ino())?;
+        let there = name_at(alloc, two, second, other_index, first.ino())?;
+        let here_near = list.has_room_near(&here);
+        let there_near = list.has_room_near(&there);
+        list.add(here.copy(alloc)?, here_near)?;
+        list.add(there.copy(alloc)?, there_near)?;
+        if list.is_crowded(&here, here_near) {
             return Ok(Answer::Collide);
         }
-        if list.is_crowded(&other, other_near) {
+        if list.is_crowded(&there, there_near) {
             return Ok(Answer::Collide);
         }
-        let indexes = noted(alloc, &self.dir_indexes, at.dir.0, index)?;
-        let both = noted(alloc, &indexes, other.dir.0, other_index)?;
+        let indexes = noted(alloc, &self.dir_indexes, here.dir.0, index)?;
+        let both = noted(alloc, &indexes, there.dir.0, other_index)?;
         self.names = list.names;
         self.near = list.near;
         self.dir_indexes = both;

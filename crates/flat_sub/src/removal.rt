@@ -26,7 +26,7 @@ fn count_standing(names: &[NameAt], dir: u64) -> usize
 
 impl FlatSub {
     /// How many names an inode has.
-    pub(crate) fn links(&self, ino: u64) -> usize
+    pub fn links(&self, ino: u64) -> usize
         requires { IsWellKept self.now }
         ensures { result ≡ links_of (sub_view self.now).sub.names ino }
     {

@@ -97,3 +97,56 @@ fn names_move(rt: HostRuntime) -> Result<(), Fail> {
     assert_eq!(rt; sub.last_index, 12);
     Ok(())
 }
+
+/// The bytes that a call answered.
+fn answered(answer: Answer) -> Result<Text, Fail> {
+    match answer {
+        Answer::Bytes(text) => Ok(text),
+        _ => Err(Fail::from("no bytes")),
+    }
+}
+
+#[test]
+fn files_and_attributes_change(rt: HostRuntime) -> Result<(), Fail> {
+    let alloc = rt.alloc();
+    let mut sub = FlatSub::bare(alloc)?;
+    let (a, b, root) = (
+        path(alloc, &[b"a"])?,
+        path(alloc, &[b"b"])?,
+        path(alloc, &[])?,
+    );
+    let file = Inode::new(alloc, Kind::File, 0, Text::new(alloc, b"")?);
+    sub.make(alloc, &a, file)?;
+    let text = Text::new(alloc, b"abc")?;
+    assert!(rt; matches!(sub.write(alloc, &a, 4095, &text)?, Answer::Number(3)));
+    assert!(rt; answered(sub.read(alloc, &a, 4094, 9)?)? == Text::new(alloc, b"\0abc")?);
+    assert!(rt; matches!(sub.truncate(alloc, &a, 4097)?, Answer::Plain));
+    assert!(rt; answered(sub.read(alloc, &a, 4095, 9)?)? == Text::new(alloc, b"ab")?);
+    assert!(rt; matches!(sub.write(alloc, &a, 16_777_214, &text)?, Answer::TooLarge));
+    assert!(rt; matches!(sub.truncate(alloc, &a, 16_777_217)?, Answer::TooLarge));
+    assert!(rt; matches!(sub.write(alloc, &root, 0, &text)?, Answer::IsDir));
+    assert!(rt; matches!(sub.read(alloc, &b, 0, 9)?, Answer::NoEnt));
+    let link = Inode::new(alloc, Kind::Link, 0, Text::new(alloc, b"a")?);
+    sub.make(alloc, &b, link)?;
+    assert!(rt; matches!(sub.truncate(alloc, &b, 0)?, Answer::Loop));
+    let name = Name::new(alloc, b"n")?;
+    assert!(rt; matches!(sub.get_attribute(alloc, &a, &name)?, Answer::NoAttr));
+    assert!(rt; matches!(sub.remove_attribute(&a, &name), Answer::NoAttr));
+    assert!(rt;
+        matches!(
+            sub.set_attribute(alloc, &a, &name, &Text::repeat(1025, 1))?,
+            Answer::TooLarge
+        )
+    );
+    assert!(rt;
+        matches!(
+            sub.set_attribute(alloc, &a, &name, &Text::repeat(1024, 1))?,
+            Answer::Plain
+        )
+    );
+    assert!(rt; matches!(sub.set_attribute(alloc, &a, &name, &text)?, Answer::Plain));
+    assert!(rt; answered(sub.get_attribute(alloc, &a, &name)?)? == text);
+    assert!(rt; matches!(sub.remove_attribute(&a, &name), Answer::Plain));
+    assert!(rt; matches!(sub.get_attribute(alloc, &a, &name)?, Answer::NoAttr));
+    Ok(())
+}

@@ -1,5 +1,5 @@
 -- Names and lines, read one after the other.
-use Rattle.std.proofs.Common.{◌≡◌, ◌≢◌, ◌≤◌, ◌<◌, ◌+◌, ◌-◌, ℕ, zero, suc, Bool, true, false, cond, eqb, ltb, List, [], ◌∷◌, ◌++◌, length, drop, get_or, Option, Some, None, Result, Ok, Err, ap, sym, subst, refl, ◌∙◌, append_assoc, arith}
+use Rattle.std.proofs.Common.{◌≡◌, ◌≤◌, ◌<◌, ◌+◌, ℕ, Bool, true, false, cond, eqb, ltb, List, [], ◌∷◌, ◌++◌, length, drop, get_or, Option, Some, None, Result, Ok, Err, ap, sym, refl, ◌∙◌, append_assoc, arith}
 use denote.Ref.{Bor}
 use Rattle.std.specs.List.{before_first, after_first}
 use Rattle.std.proofs.lemmas.Bool.{ltb-false}
@@ -14,7 +14,7 @@ use Rattle.script_text.specs.Kinds.{◌>>=◌, Fails, IsFaultOf, fault_at}
 use Rattle.flat_model.specs.declared.place.Place.{Place}
 use Rattle.script_text.specs.Words.{number_word}
 use Rattle.script_text.specs.Paths.{name_of, all_names, place_of}
-use Rattle.script_text.specs.Script.{write_of, line_of, lines_of, with_line, script_behind, script_with, script_from, script_of}
+use Rattle.script_text.specs.Script.{write_of, line_of, lines_of, script_behind, script_with, script_from, script_of}
 use Rattle.script_text.specs.Parts.{bytes_of}
 use Rattle.script_text.proofs.PartLemmas.{part_at, parts_past, lines_of-cut}
 

@@ -1,7 +1,7 @@
 -- Lists of parts: a part at a place, and the parts of a script.
-use Rattle.std.proofs.Common.{◌≡◌, ◌≢◌, ◌≤◌, ◌<◌, ◌+◌, ◌-◌, ◌⊎◌, inl, inr, ℕ, zero, suc, Bool, true, false, cond, eqb, ◌||◌, List, [], ◌∷◌, ◌++◌, length, drop, take, get_or, slice_index, slice_index_or, ap, sym, refl, ◌∙◌, append_assoc, add-one, arith}
+use Rattle.std.proofs.Common.{◌≡◌, ◌≢◌, ◌≤◌, ◌<◌, ◌+◌, ◌-◌, inl, inr, ℕ, zero, suc, Bool, true, false, cond, eqb, ◌||◌, List, [], ◌∷◌, ◌++◌, length, drop, take, get_or, slice_index, ap, sym, refl, ◌∙◌, append_assoc, add-one, arith}
 use denote.Ref.{Bor}
-use Rattle.std.specs.List.{slice_split, before_first, after_first, position_or_len, count_by, list_any}
+use Rattle.std.specs.List.{slice_split, before_first, after_first, position_or_len, list_any}
 use Rattle.std.proofs.lemmas.Bool.{cases_lt}
 use Rattle.std.proofs.lemmas.Bool.Decides.{nat_tests}
 use Rattle.std.proofs.lemmas.List.{map_push, length-drop}

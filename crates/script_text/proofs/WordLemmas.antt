@@ -1,9 +1,7 @@
 -- Numbers and texts, read byte by byte.
-use Rattle.std.proofs.Common.{◌≡◌, ◌≢◌, ◌≤◌, ◌<◌, ◌+◌, ◌-◌, ◌*◌, ◌^◌, ◌⊎◌, inl, inr, ℕ, zero, suc, Bool, true, false, cond, eqb, ltb, ◌&&◌, List, [], ◌∷◌, ◌++◌, length, drop, get_or, slice_index, Option, Some, None, Result, Ok, Err, ok_or, option_to_list, add-one, drop-cons, ap, sym, refl, ◌∙◌, append_assoc, arith}
-use Rattle.std.specs.Char.{is_ascii_digit}
-use Rattle.std.specs.Option.{option_and_then, option_map}
+use Rattle.std.proofs.Common.{◌≡◌, ◌≤◌, ◌<◌, ◌+◌, ℕ, zero, suc, Bool, true, false, cond, List, [], ◌∷◌, ◌++◌, length, drop, slice_index, Option, Some, None, Ok, Err, ok_or, option_to_list, add-one, drop-cons, ap, sym, refl, ◌∙◌, append_assoc, arith}
+use Rattle.std.specs.Option.{option_map}
 use Rattle.std.proofs.lemmas.List.{append-nil}
-use Rattle.std.proofs.lemmas.Bool.Decides.{nat_tests}
 use Rattle.std.specs.Str.{IsUtf8, is_utf8}
 use Rattle.std.proofs.lemmas.Str.{IsUtf8-from_is_utf8, is_utf8-from_IsUtf8}
 use Rattle.blk_base.specs.Name.{IsName, is_name}
@@ -13,7 +11,7 @@ use Rattle.script_text.specs.declared.fault.ScriptKind.TheVariants.{Path, Escape
 use Rattle.script_text.specs.Paths.{name_of}
 use Rattle.script_text.specs.declared.text.Spot.{Spot}
 use Rattle.script_text.specs.declared.text.Spot.TheVariants.{Between, Backslash, Hex, High}
-use Rattle.script_text.specs.Words.{number_behind, number_of, next_spot, text_at_end, text_from, text_of}
+use Rattle.script_text.specs.Words.{next_spot, text_at_end, text_from, text_of}
 
 -- nothing is left behind the end
 pub drop-past : {A : Type 0} (place : ℕ) (word : List A) → length word ≤ place → drop place word ≡ []

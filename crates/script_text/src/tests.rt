@@ -1,4 +1,6 @@
 use super::*;
+use blk_base::{SubId, Text};
+use flat_model::Op;
 use std::alloc::Global;
 use std::test::Fail;
 
@@ -13,66 +15,155 @@ fn given(alloc: Global, script: &[u8]) -> Result<Given, Fail> {
     }
 }
 
-fn bad(script: &'static [u8], line: u32, kind: &'static str) -> (&'static [u8], Given) {
-    (script, Err((line, kind)))
+/// Scripts of one line and without a fault, each in a line of its own.
+const GOOD: &[u8] = b"1 sync
+16 sync
+1 create /
+1 create /a
+1 create 0:/
+1 create 256:/a/b
+1 create 18446744073709551615:/a
+1 create /\\x61\\\\\\xff
+1 create /a:b
+1 write /a 0 x
+1 write /a 18446744073709551615 \\x00";
+
+/// Scripts of one line whose caller is none.
+const NO_CALLER: &[u8] = b"17 sync
+0 sync
+01 sync
+x sync
+ 1 sync
++1 sync
+\\x31 sync";
+
+/// Scripts of one line that are no request.
+const NO_REQUEST: &[u8] = b"1
+1 
+1  create /a
+1 sync 
+1 sync x
+1 Sync
+1 start
+1 create
+1 create /a /b
+1 write /a\\ 0
+1 write /a\\ 0 x y";
+
+/// Scripts of one line with a word that should be a number.
+const NO_NUMBER: &[u8] = b"1 write /a 00 x
+1 write /a -1 x
+1 write /a 18446744073709551616 x
+1 write /a \\x30 x";
+
+/// Scripts of one line with a word that should be a path.
+const NO_PATH: &[u8] = b"1 write a 0 x
+1 write /a/ 0 x
+1 write //a 0 x
+1 write /. 0 x
+1 write /\\x2f 0 x
+1 write /\\x00 0 x
+1 create 5:/a
+1 create \\x36:/a
+1 create 06:/a
+1 create 256:
+1 create 256/a";
+
+/// Scripts of one line with a backslash out of its forms.
+const NO_ESCAPE: &[u8] = b"1 write /a\\ 0 x
+1 write /\\x0 0 x
+1 write /\\xFF 0 x
+1 write a\\/b 0 x
+1 write //\\q 0 x
+1 write /a 0 \\";
+
+/// Whether each of the lines, taken as a script of its own, gives this.
+fn all_give(alloc: Global, lines: &[u8], want: Given) -> Result<bool, Fail> {
+    for line in lines.split(|byte| *byte == b'\n') {
+        if given(alloc, line)? != want {
+            return Ok(false);
+        }
+    }
+    Ok(true)
 }
 
-fn good(script: &'static [u8], lines: usize) -> (&'static [u8], Given) {
-    (script, Ok(lines))
+#[test]
+fn tells_lines(rt: HostRuntime) -> Result<(), Fail> {
+    assert!(rt; all_give(rt.alloc(), GOOD, Ok(1))?);
+    assert!(rt; all_give(rt.alloc(), NO_CALLER, Err((1, "caller")))?);
+    assert!(rt; all_give(rt.alloc(), NO_REQUEST, Err((1, "word")))?);
+    assert!(rt; all_give(rt.alloc(), NO_NUMBER, Err((1, "number")))?);
+    assert!(rt; all_give(rt.alloc(), NO_PATH, Err((1, "path")))?);
+    assert!(rt; all_give(rt.alloc(), NO_ESCAPE, Err((1, "escape")))?);
+    Ok(())
 }
 
 #[test]
 fn tells_scripts(rt: HostRuntime) -> Result<(), Fail> {
-    let table = [
-        good(b"", 0),
-        good(b"\n", 0),
-        good(b"1 sync", 1),
-        good(b"1 sync\n", 1),
-        good(b"# a comment\n\n16 sync\n#\xff\n", 1),
-        good(b"1 create /a\n2 write /a 0 x\n3 sync\n", 3),
-        good(b"1 create /", 1),
-        good(b"1 create 256:/a/b", 1),
-        good(b"1 create 0:/", 1),
-        good(b"1 create 18446744073709551615:/a", 1),
-        good(b"1 create /\\x61\\\\\\xff", 1),
-        good(b"1 write /a 18446744073709551615 \\x00", 1),
-        bad(b"17 sync", 1, "caller"),
-        bad(b"0 sync", 1, "caller"),
-        bad(b"01 sync", 1, "caller"),
-        bad(b"x sync", 1, "caller"),
-        bad(b" 1 sync", 1, "caller"),
-        bad(b"+1 sync", 1, "caller"),
-        bad(b"1", 1, "word"),
-        bad(b"1 ", 1, "word"),
-        bad(b"1  create /a", 1, "word"),
-        bad(b"1 sync ", 1, "word"),
-        bad(b"1 sync x", 1, "word"),
-        bad(b"1 Sync", 1, "word"),
-        bad(b"1 start", 1, "word"),
-        bad(b"1 create", 1, "word"),
-        bad(b"1 write /a\\ 0 x y", 1, "word"),
-        bad(b"1 write /a 00 x", 1, "number"),
-        bad(b"1 write /a 18446744073709551616 x", 1, "number"),
-        bad(b"1 write /a \\x30 x", 1, "number"),
-        bad(b"1 write a 0 x", 1, "path"),
-        bad(b"1 write /a/ 0 x", 1, "path"),
-        bad(b"1 write //a 0 x", 1, "path"),
-        bad(b"1 write /. 0 x", 1, "path"),
-        bad(b"1 write /\\x2f 0 x", 1, "path"),
-        bad(b"1 create 5:/a", 1, "path"),
-        bad(b"1 create \\x36:/a", 1, "path"),
-        bad(b"1 create 06:/a", 1, "path"),
-        bad(b"1 write /a\\ 0 x", 1, "escape"),
-        bad(b"1 write /\\x0 0 x", 1, "escape"),
-        bad(b"1 write /\\xFF 0 x", 1, "escape"),
-        bad(b"1 write //\\q 0 x", 1, "escape"),
-        bad(b"1 write /a 0 \\", 1, "escape"),
-        bad(b"#\n\n1 sync\n1 create a\n0 sync", 4, "path"),
-        bad(b"1 sync\n\xff", 2, "utf8"),
-        bad(b"0 \xe9\n", 1, "utf8"),
-    ];
-    for (script, want) in table {
-        assert_eq!(rt; given(rt.alloc(), script)?, want, "at {script:?}");
+    assert_eq!(rt; given(rt.alloc(), b"")?, Ok(0));
+    assert_eq!(rt; given(rt.alloc(), b"#\xff\n\n16 sync\n# x\n")?, Ok(1));
+    assert_eq!(rt; given(rt.alloc(), b"1 sync\n2 sync")?, Ok(2));
+    assert_eq!(rt;
+        given(rt.alloc(), b"#\n\n1 sync\n1 create a\n0 sync")?,
+        Err((4, "path"))
+    );
+    assert_eq!(rt; given(rt.alloc(), b"1 sync\n0 \xe9")?, Err((2, "utf8")));
+    Ok(())
+}
+
+#[test]
+fn reads_a_line(rt: HostRuntime) -> Result<(), Fail> {
+    let script = parse(rt.alloc(), b"# two names\n16 write 256:/a/\\\\b 7 x\\x00\n")?;
+    let [Line::Plain(caller, Request::Op(Op::Write(place, offset, text)))] = script.lines() else {
+        return Err(Fail::from("another line"));
+    };
+    assert_eq!(rt; *caller, 16);
+    assert_eq!(rt; place.sub, SubId(256));
+    let [first, second] = place.path.names() else {
+        return Err(Fail::from("another path"));
+    };
+    assert_eq!(rt; first.as_bytes(), b"a".as_slice());
+    assert_eq!(rt; second.as_bytes(), b"\\b".as_slice());
+    assert_eq!(rt; *offset, 7);
+    assert!(rt; *text == Text::new(rt.alloc(), b"x\0")?);
+    Ok(())
+}
+
+#[test]
+fn counts_all_lines(rt: HostRuntime) -> Result<(), Fail> {
+    let mut script = Vec::new(rt.alloc());
+    for _ in 0..65_535 {
+        script.push(b'\n')?;
     }
+    script.extend_from_slice(b"1 sync")?;
+    assert_eq!(rt; given(rt.alloc(), script.as_slice())?, Ok(1));
+    script.push(b'\n')?;
+    assert_eq!(rt; given(rt.alloc(), script.as_slice())?, Ok(1));
+    script.push(b'#')?;
+    assert_eq!(rt;
+        given(rt.alloc(), script.as_slice())?,
+        Err((65_537, "lines"))
+    );
+    Ok(())
+}
+
+#[test]
+fn limits_texts_and_paths(rt: HostRuntime) -> Result<(), Fail> {
+    let mut script = Vec::new(rt.alloc());
+    script.extend_from_slice(b"1 write /a 0 ")?;
+    for _ in 0..65_536 {
+        script.push(b'x')?;
+    }
+    assert_eq!(rt; given(rt.alloc(), script.as_slice())?, Ok(1));
+    script.push(b'x')?;
+    assert_eq!(rt; given(rt.alloc(), script.as_slice())?, Err((1, "path")));
+    script.clear();
+    script.extend_from_slice(b"1 create ")?;
+    for _ in 0..64 {
+        script.extend_from_slice(b"/a")?;
+    }
+    assert_eq!(rt; given(rt.alloc(), script.as_slice())?, Ok(1));
+    script.extend_from_slice(b"/a")?;
+    assert_eq!(rt; given(rt.alloc(), script.as_slice())?, Err((1, "path")));
     Ok(())
 }

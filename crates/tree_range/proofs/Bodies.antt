@@ -1,5 +1,5 @@
 -- What the body of a block lists.
-use Rattle.std.proofs.Common.{◌≡◌, ℕ, List, refl, ap, ◌∙◌, Result, Ok, Err, IsOk}
+use Rattle.std.proofs.Common.{◌≡◌, ℕ, List, refl, ap, Result, Ok, Err, IsOk}
 use Rattle.blk_base.specs.declared.fault.BlockFault.{BlockFault}
 use Rattle.blk_base.specs.Leaf.{Item, Pointer, leaf_body_of, node_body_of}
 use Rattle.block_table.specs.Table.{Table}

@@ -1,5 +1,5 @@
 -- The child of a node under which a key belongs.
-use Rattle.std.proofs.Common.{◌≡◌, ◌≤◌, ◌<◌, ◌+◌, ◌-◌, ℕ, zero, suc, List, [], ◌∷◌, ◌++◌, length, map, take, drop, slice_get, refl, ap, ◌∙◌, sym, subst, Option, Some, None, ◌⊎◌, inl, inr, arith, add-one}
+use Rattle.std.proofs.Common.{◌≡◌, ◌≤◌, ◌<◌, ◌+◌, ◌-◌, ℕ, zero, suc, List, [], ◌∷◌, length, map, take, drop, slice_get, refl, ap, ◌∙◌, sym, subst, Option, Some, inl, inr, arith}
 use Rattle.std.specs.Prelude.{All}
 use Rattle.std.proofs.lemmas.List.{take-map, drop-map, length-map}
 use Rattle.std.proofs.lemmas.List.Elements.{All-tail}
@@ -88,7 +88,7 @@ is_child pointers key next place at generation behind h child after = record {
   is_place = h;
   at_is =
       let there : slice_get (children_of pointers) place ≡ Some (child_of h.pointer) =
-        subst (λ (n : ℕ). slice_get (children_of pointers) n ≡ Some (child_of h.pointer)) h.long (subst (λ (l : List Pointer). slice_get (children_of l) (length h.lefts) ≡ Some (child_of h.pointer)) (sym h.split) (at_cut child_of h.lefts h.pointer h.rights)) in
+      subst (λ (n : ℕ). slice_get (children_of pointers) n ≡ Some (child_of h.pointer)) h.long (subst (λ (l : List Pointer). slice_get (children_of l) (length h.lefts) ≡ Some (child_of h.pointer)) (sym h.split) (at_cut child_of h.lefts h.pointer h.rights)) in
       first_of h.pointer.at h.pointer.generation at generation (sym there ∙ child);
   behind_is =
       let one : place + 1 ≡ suc (length h.lefts) = omega (arith, h.long) in

@@ -1,9 +1,9 @@
 -- What a search in the leaf where a key belongs says of the tree.
-use Rattle.std.proofs.Common.{◌≡◌, ◌≤◌, ◌<◌, ◌+◌, ℕ, zero, suc, Bool, true, false, List, [], ◌∷◌, ◌++◌, length, map, take, drop, slice_get, refl, ap, ◌∙◌, sym, subst, Option, Some, None, inl, inr, arith, append_assoc}
+use Rattle.std.proofs.Common.{◌≡◌, ◌<◌, ℕ, zero, suc, Bool, true, false, List, [], ◌∷◌, ◌++◌, length, take, drop, slice_get, ap, ◌∙◌, sym, subst, Some, None, inl, inr, arith, append_assoc}
 use Rattle.std.specs.Prelude.{All, Contains, slice_index_or, option_map, if◌then◌else◌}
 use Rattle.std.proofs.lemmas.Bool.{cases_Bool}
 use Rattle.std.proofs.lemmas.List.{length-map, take-map, drop-map, append-nil, take-append-drop}
-use Rattle.std.proofs.lemmas.List.Elements.{All-append, All-same, All-weaker, All-contains}
+use Rattle.std.proofs.lemmas.List.Elements.{All-append, All-same, All-contains}
 use Rattle.std.proofs.lemmas.Option.{slice_get-map, slice_get_within}
 use Rattle.blk_base.specs.declared.key.Key.{Key}
 use Rattle.blk_base.specs.Keys.{KeyBelow, key_below}
@@ -33,7 +33,7 @@ found_under all before leaf after key place bytes rise is found content =
     let x = there.element in
     let bytes_are : x.1 ≡ bytes = let e : Some x.1 ≡ Some bytes = sym (slice_get-map content_of leaf place ∙ ap (option_map content_of) there.at_place) ∙ content in cc in
     let shown : all ≡ (before ++ take place leaf) ++ x ∷ (drop (suc place) leaf ++ after) =
-      is ∙ ap (λ (l : List Item). before ++ (l ++ after)) (cut_at leaf place x there.at_place) ∙ regroup before (take place leaf) x (drop (suc place) leaf) after in
+    is ∙ ap (λ (l : List Item). before ++ (l ++ after)) (cut_at leaf place x there.at_place) ∙ regroup before (take place leaf) x (drop (suc place) leaf) after in
     let below : AreBelow x.0 (before ++ take place leaf) = rise_before (before ++ take place leaf) x (drop (suc place) leaf ++ after) (subst ItemsRise shown rise) in
     let under : data_under x.0 all ≡ Some x.1 = ap (data_under x.0) shown ∙ under_past x.0 (before ++ take place leaf) (x ∷ (drop (suc place) leaf ++ after)) (none_below x.0 (before ++ take place leaf) below) ∙ under_here x (drop (suc place) leaf ++ after) in
     subst (λ (k : Key). data_under k all ≡ Some bytes) there.value_is (under ∙ ap (λ (b : List ℕ). Some b) bytes_are)
@@ -94,9 +94,9 @@ under_cons key x xs b h = ap (λ (b' : Bool). if b' then Some x.1 else data_unde
 pub contains_under : (items : List Item) (key : Key) (bytes : List ℕ) → data_under key items ≡ Some bytes → Contains items (key, bytes)
 contains_under [] key bytes h = absurd cc
 contains_under (x ∷ xs) key bytes h = elim (cases_Bool (has_key key x)) [
-    | inl same ↦ let e : Some x.1 ≡ Some bytes = sym (under_cons key x xs true same) ∙ h in let bytes_are : x.1 ≡ bytes = cc in (0, omega arith, made_of x key bytes (has_key_means key x same) bytes_are)
-    | inr other ↦ contains_more x (key, bytes) xs (contains_under xs key bytes (sym (under_cons key x xs false other) ∙ h))
-  ]
+  | inl same ↦ let e : Some x.1 ≡ Some bytes = sym (under_cons key x xs true same) ∙ h in let bytes_are : x.1 ≡ bytes = cc in (0, omega arith, made_of x key bytes (has_key_means key x same) bytes_are)
+  | inr other ↦ contains_more x (key, bytes) xs (contains_under xs key bytes (sym (under_cons key x xs false other) ∙ h))
+]
 
 pub under_contains : (items : List Item) (key : Key) (bytes : List ℕ) (place : ℕ) → ItemsRise items → place < length items → slice_index_or items place (key, bytes) ≡ (key, bytes) → data_under key items ≡ Some bytes
 under_contains [] key bytes place rise inside is = absurd (omega arith)

@@ -1,12 +1,12 @@
 -- A tree stands in a table by the relation exactly where it does by functions of the table.
-use Rattle.std.proofs.Common.{◌≡◌, ◌≤◌, ℕ, zero, suc, Bool, true, false, List, [], ◌∷◌, ◌++◌, length, refl, ap, ◌∙◌, sym, subst, Option, Some, Result, Ok, IsOk}
-use Rattle.std.specs.Prelude.{All, ◌↔◌}
+use Rattle.std.proofs.Common.{◌≡◌, ◌≤◌, ℕ, zero, suc, Bool, true, false, List, [], ◌∷◌, ◌++◌, length, refl, ap, ◌∙◌, sym, subst, Some}
+use Rattle.std.specs.Prelude.{All}
 use Rattle.std.specs.List.{flat_map}
 use Rattle.std.proofs.lemmas.List.Elements.{All-nil, All-cons, All-head, All-tail}
-use Rattle.blk_base.specs.Leaf.{Item, Pointer, IsLeafBody, IsNodeBody, leaf_body_of, node_body_of}
+use Rattle.blk_base.specs.Leaf.{Item, Pointer, leaf_body_of, node_body_of}
 use Rattle.block_table.specs.declared.tree.Tree.{Tree}
 use Rattle.block_table.specs.Table.{Table}
-use Rattle.block_table.specs.TreeIn.{AreChildren, IsSubtreeIn, IsTaken, IsTreeIn, ItemsRise, NoneTwice, block_at, first_key, least_items, least_pointers}
+use Rattle.block_table.specs.TreeIn.{AreChildren, IsSubtreeIn, IsTreeIn, ItemsRise, NoneTwice, block_at, first_key, least_items, least_pointers}
 use Rattle.leaf_view.proofs.LeafLaws.{leaf_body_means, leaf_body_from}
 use Rattle.leaf_view.proofs.NodeLaws.{node_body_means, node_body_from}
 use Rattle.tree_range.specs.Shape.{IsSubtree, IsTree, items_below, reach_below, leaf_items, node_pointers, tree_items, tree_reach}
@@ -67,9 +67,9 @@ subtree_to (suc level) table is_root at items reach h =
     let body = node_body_from (block_at table at).bytes pointers h.3 in
     let same : node_pointers table at ≡ pointers = node_pointers_are table at pointers body in
     let each : (pointer : Pointer) (part : List Item) (near : List ℕ) → ChildIn level table pointer part near → IsSame (Child level table) (λ pointer'. items_below level table pointer'.at) (λ pointer'. reach_below level table pointer'.at) pointer part near =
-      λ pointer part near k.
-        let below = subtree_to level table false pointer.at part near k.0 in
-        record { shape = (below.shape, subst (λ (l : List Item). first_key l ≡ Some pointer.key) below.items_are k.1); items = below.items_are; reach = below.reach_is } in
+    λ pointer part near k.
+    let below = subtree_to level table false pointer.at part near k.0 in
+    record { shape = (below.shape, subst (λ (l : List Item). first_key l ≡ Some pointer.key) below.items_are k.1); items = below.items_are; reach = below.reach_is } in
     let children = children_to (ChildIn level table) (Child level table) (λ pointer. items_below level table pointer.at) (λ pointer. reach_below level table pointer.at) each pointers items h.1 h.5 in
     record {
       shape = (h.2, is_ok (node_body_of (block_at table at).bytes) pointers body, subst (λ (l : List Pointer). least_pointers is_root ≤ length l) (sym same) h.4, subst (λ (l : List Pointer). All (Child level table) l) (sym same) children.shapes);
@@ -82,9 +82,15 @@ subtree_from zero table is_root at h =
     (h.0, leaf_body_means (block_at table at).bytes (leaf_items table at) (leaf_body_is table at h.1), h.2, refl)
 subtree_from (suc level) table is_root at h =
     let each : (pointer : Pointer) → Child level table pointer → ChildIn level table pointer (items_below level table pointer.at) (reach_below level table pointer.at) =
-      λ pointer k. (subtree_from level table false pointer.at k.0, k.1) in
-    (node_pointers table at, flat_map (λ pointer. reach_below level table pointer.at) (node_pointers table at), h.0, node_body_means (block_at table at).bytes (node_pointers table at) (node_body_is table at h.1), h.2,
-    children_from (ChildIn level table) (Child level table) (λ pointer. items_below level table pointer.at) (λ pointer. reach_below level table pointer.at) each (node_pointers table at) h.3, refl)
+    λ pointer k. (subtree_from level table false pointer.at k.0, k.1) in (
+      node_pointers table at,
+      flat_map (λ pointer. reach_below level table pointer.at) (node_pointers table at),
+      h.0,
+      node_body_means (block_at table at).bytes (node_pointers table at) (node_body_is table at h.1),
+      h.2,
+      children_from (ChildIn level table) (Child level table) (λ pointer. items_below level table pointer.at) (λ pointer. reach_below level table pointer.at) each (node_pointers table at) h.3,
+      refl,
+    )
 
 pub tree_to : (table : Table) (tree : Tree) (items : List Item) (reach : List ℕ) → IsTreeIn table tree items reach → IsTree table tree × (items ≡ tree_items table tree) × (reach ≡ tree_reach table tree)
 tree_to table tree items reach h =

@@ -1,15 +1,14 @@
 -- What stands below a block depends on the blocks that it reaches alone.
-use Rattle.std.proofs.Common.{◌≡◌, ◌≢◌, ◌≤◌, ◌<◌, ◌/◌, ℕ, zero, suc, Bool, true, false, List, [], ◌∷◌, ◌++◌, length, refl, ap, ◌∙◌, sym, subst, Option, Some, IsOk}
+use Rattle.std.proofs.Common.{◌≡◌, ◌≢◌, ◌≤◌, ℕ, zero, suc, Bool, true, false, List, [], ◌∷◌, ◌++◌, length, refl, ap, ◌∙◌, sym, subst, Some, IsOk}
 use Rattle.std.specs.Prelude.{All}
 use Rattle.std.specs.List.{flat_map}
 use Rattle.std.proofs.lemmas.List.Elements.{All-nil, All-cons, All-head, All-tail, All-weaker}
-use Rattle.blk_base.specs.Address.{IsAllowed}
 use Rattle.blk_base.specs.Leaf.{Item, Pointer, leaf_body_of, node_body_of}
 use Rattle.block_table.specs.declared.state.SlotState.{SlotState}
 use Rattle.block_table.specs.declared.state.SlotState.TheVariants.{Free, Dirty, Sealed, Live, LetGo}
 use Rattle.block_table.specs.declared.tree.Tree.{Tree}
 use Rattle.block_table.specs.Slot.{BlockSlot, is_free}
-use Rattle.block_table.specs.Table.{Table, slot_at}
+use Rattle.block_table.specs.Table.{Table}
 use Rattle.block_table.specs.TreeIn.{IsTaken, ItemsRise, NoneTwice, block_at, first_key, least_items, least_pointers}
 use Rattle.block_table.proofs.Kept.{found}
 use Rattle.std.specs.Prelude.{slice_index_or}
@@ -77,9 +76,9 @@ alike_below (suc level) old new at h =
       reach = ap (λ (l : List ℕ). at ∷ l) (ap (flat_map (λ (pointer : Pointer). reach_below level new pointer.at)) same ∙ flat_map_same (λ (pointer : Pointer). reach_below level new pointer.at) (λ (pointer : Pointer). reach_below level old pointer.at) pointers (All-weaker (λ (pointer : Pointer). IsAlikeBelow level old new pointer.at) (λ (pointer : Pointer). reach_below level new pointer.at ≡ reach_below level old pointer.at) (λ pointer k. k.reach) pointers each));
       shape = λ is_root k.
           let children : All (Child level new) pointers = λ i d within.
-              let one : IsAlikeBelow level old new (slice_index_or pointers i d).at = each i d within in
-              let was = k.3 i d within in
-              (one.shape false was.0, subst (λ (l : List Item). first_key l ≡ Some (slice_index_or pointers i d).key) (sym one.items) was.1) in
+          let one : IsAlikeBelow level old new (slice_index_or pointers i d).at = each i d within in
+          let was = k.3 i d within in
+          (one.shape false was.0, subst (λ (l : List Item). first_key l ≡ Some (slice_index_or pointers i d).key) (sym one.items) was.1) in
           (taken_alike old new at here k.0, subst (λ (slot : BlockSlot). IsOk (node_body_of slot.bytes)) (sym here) k.1, subst (λ (l : List Pointer). least_pointers is_root ≤ length l) (sym same) k.2, subst (λ (l : List Pointer). All (Child level new) l) (sym same) children);
     }
 

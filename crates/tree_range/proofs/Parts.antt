@@ -1,5 +1,5 @@
 -- A part of a tree stands exactly where its uppermost block and its children do.
-use Rattle.std.proofs.Common.{◌≡◌, ◌≤◌, ◌<◌, ◌+◌, ◌-◌, ℕ, zero, suc, Bool, true, false, List, [], ◌∷◌, ◌++◌, length, take, drop, slice_get, refl, ap, ◌∙◌, sym, subst, Option, Some, None, Result, Ok, IsOk, arith, option_map}
+use Rattle.std.proofs.Common.{◌≡◌, ◌≤◌, ◌<◌, ◌+◌, ◌-◌, ℕ, zero, suc, List, [], ◌∷◌, ◌++◌, length, take, drop, slice_get, refl, ap, ◌∙◌, sym, subst, Option, Some, None, Result, Ok, IsOk, arith, option_map}
 use Rattle.std.specs.Prelude.{All, is_none}
 use Rattle.std.specs.List.{flat_map}
 use Rattle.std.proofs.lemmas.List.Elements.{All-nil, All-cons, All-head, All-tail, All-append, All-same, All-weaker}
@@ -7,22 +7,22 @@ use Rattle.std.proofs.lemmas.Option.{same_Some, get_or_from_slice_get, slice_get
 use Rattle.blk_base.specs.declared.key.Key.{Key}
 use Rattle.blk_base.specs.declared.fault.BlockFault.{BlockFault}
 use Rattle.blk_base.specs.Keys.{KeyBelow}
-use Rattle.blk_base.specs.Leaf.{Item, Pointer, IsLeafBody, item_of, leaf_body_of, node_body_of}
+use Rattle.blk_base.specs.Leaf.{Item, Pointer, item_of, leaf_body_of, node_body_of}
 use Rattle.block_table.specs.Table.{Table}
-use Rattle.block_table.specs.TreeIn.{IsTaken, ItemsRise, block_at, first_key, least_items, least_pointers}
+use Rattle.block_table.specs.TreeIn.{IsTaken, ItemsRise, block_at, first_key, least_items}
 use Rattle.leaf_view.specs.KeyOrder.{KeyBelow_trans}
 use Rattle.leaf_view.specs.Search.{children_of, keys_of, pointer_keys}
 use Rattle.leaf_view.proofs.LeafLaws.{leaf_body_means}
-use Rattle.tree_range.specs.Shape.{IsSubtree, items_below, leaf_items, listed, node_pointers}
+use Rattle.tree_range.specs.Shape.{items_below, leaf_items, listed, node_pointers}
 use Rattle.tree_range.specs.Between.{AreBelow}
 use Rattle.tree_range.specs.Path.{key_behind}
 use Rattle.tree_range.specs.Part.{AreBefore, IsChildPart, IsFirst, IsLeafPart, IsNodePart, IsPart}
-use Rattle.tree_range.proofs.Bodies.{leaf_body_is, leaf_items_are, node_body_is, node_pointers_are}
+use Rattle.tree_range.proofs.Bodies.{leaf_body_is, node_pointers_are}
 use Rattle.tree_range.proofs.Children.{child_of, first_of}
-use Rattle.tree_range.proofs.Cuts.{IsAt, cut_at, mapped_at}
+use Rattle.tree_range.proofs.Cuts.{cut_at, mapped_at}
 use Rattle.tree_range.proofs.Found.{key_of}
 use Rattle.tree_range.proofs.Law.{Child}
-use Rattle.tree_range.proofs.Rise.{All-left, All-right, HasFirst, first_append, first_is, rise_before, rise_left, rise_right}
+use Rattle.tree_range.proofs.Rise.{All-left, All-right, first_append, first_is, rise_before, rise_left, rise_right}
 
 abbrev pub pointer_key : Pointer → Key
 pointer_key pointer = pointer.key

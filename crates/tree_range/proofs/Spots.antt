@@ -1,8 +1,8 @@
 -- Places of items in leaves of a tree, and the items that are left from there on.
-use Rattle.std.proofs.Common.{◌≡◌, ◌≤◌, ◌<◌, ◌+◌, ℕ, zero, suc, Bool, true, false, List, [], ◌∷◌, ◌++◌, length, map, take, drop, slice_get, refl, ap, ◌∙◌, sym, subst, Option, Some, None, inl, inr, arith, append_assoc, add-one}
+use Rattle.std.proofs.Common.{◌≡◌, ◌≤◌, ◌<◌, ◌+◌, ℕ, zero, suc, false, List, [], ◌∷◌, ◌++◌, length, take, drop, slice_get, refl, ap, ◌∙◌, sym, subst, Option, Some, None, inl, inr, arith, append_assoc}
 use Rattle.std.specs.Prelude.{All}
 use Rattle.std.proofs.lemmas.Bool.{cases_lt}
-use Rattle.std.proofs.lemmas.List.{take-append-drop, length-take}
+use Rattle.std.proofs.lemmas.List.{take-append-drop}
 use Rattle.std.proofs.lemmas.List.Elements.{All-append, All-head}
 use Rattle.std.proofs.lemmas.Option.{slice_get_within}
 use Rattle.blk_base.specs.declared.key.Key.{Key}
@@ -18,7 +18,7 @@ use Rattle.tree_range.specs.Between.{AreBelow, AreAbove, items_from, items_from_
 use Rattle.tree_range.specs.Path.{IsPath, IsStart, key_here}
 use Rattle.tree_range.specs.Spot.{IsItemSpot, IsSpot, leaf_rest, spot_items}
 use Rattle.tree_range.specs.declared.spot.Spot.{Spot}
-use Rattle.tree_range.proofs.Cuts.{drop_here, at_within}
+use Rattle.tree_range.proofs.Cuts.{drop_here}
 use Rattle.tree_range.proofs.Rise.{rise_right}
 use Rattle.tree_range.proofs.Under.{from_key, not_below, rest_is, up_to_none, up_to_more}
 
@@ -55,7 +55,7 @@ begun table tree key at place next is_tree path start =
     let leaf = leaf_items table at.0 in
     let spot : Spot = record { leaf = at; place = place; next = next } in
     let shown : tree_items table tree ≡ (path.before ++ take place leaf) ++ (drop place leaf ++ path.after) =
-      path.items ∙ ap (λ (l : List Item). path.before ++ (l ++ path.after)) (sym (take-append-drop place leaf)) ∙ regroup path.before (take place leaf) (drop place leaf) path.after in
+    path.items ∙ ap (λ (l : List Item). path.before ++ (l ++ path.after)) (sym (take-append-drop place leaf)) ∙ regroup path.before (take place leaf) (drop place leaf) path.after in
     let is : IsSpot table tree spot = record { is_root = path.is_root; shape = path.shape; inside = start.inside; front = path.before ++ take place leaf; after = path.after; items = shown; next_is = path.next_is } in
     let below : AreBelow key (path.before ++ take place leaf) = All-append (λ (item : Item). KeyBelow item.0 key) path.before (take place leaf) path.below start.below in
     let above : All (λ (item : Item). key_below item.0 key ≡ false) (drop place leaf ++ path.after) = All-append (λ (item : Item). key_below item.0 key ≡ false) (drop place leaf) path.after start.from (not_below key path.after path.above) in
@@ -106,8 +106,8 @@ there table tree spot new next is_tree s past some is items above =
       holds = elim (cases_lt new.place (length (leaf_items table new.leaf.0))) [
         | inl within ↦ within
         | inr end ↦
-          let first : new.next ≡ Some next = sym (left_first table tree new is_tree is end) ∙ ap first_key same ∙ left_first table tree spot is_tree s past ∙ some in
-          absurd (KeyBelow_irrefl next (above next first))
+            let first : new.next ≡ Some next = sym (left_first table tree new is_tree is end) ∙ ap first_key same ∙ left_first table tree spot is_tree s past ∙ some in
+            absurd (KeyBelow_irrefl next (above next first))
       ];
     }
 

@@ -1,5 +1,5 @@
 -- How often a tree reaches a block.
-use Rattle.std.proofs.Common.{◌≡◌, ◌≤◌, ◌<◌, ◌+◌, ◌*◌, ◌-◌, ◌/◌, ◌%◌, min, ℕ, zero, suc, Bool, true, false, List, [], ◌∷◌, ◌++◌, length, take, slice_get, refl, ap, ◌∙◌, sym, subst, Some, Ok, arith, inl, inr, eqb}
+use Rattle.std.proofs.Common.{◌≡◌, ◌≤◌, ◌<◌, ◌+◌, ◌*◌, ◌-◌, ◌/◌, min, ℕ, zero, suc, Bool, true, false, List, [], ◌∷◌, ◌++◌, length, take, slice_get, refl, ap, ◌∙◌, sym, subst, Some, Ok, arith, inl, inr}
 use Rattle.std.specs.Prelude.{All, Contains, ◌==◌, if◌then◌else◌, slice_index_or}
 use Rattle.std.specs.List.{flat_map}
 use Rattle.std.proofs.lemmas.Bool.{cases_Bool, cases_lt, eqb-true, eq-eqb}
@@ -37,9 +37,9 @@ times_contained at (x ∷ xs) (suc place) inside is = omega (arith, times_contai
 contained_by_times : (at : ℕ) (xs : List ℕ) → 1 ≤ times_in at xs → Contains xs at
 contained_by_times at [] h = absurd (omega arith)
 contained_by_times at (x ∷ xs) h = elim (cases_Bool (x == at)) [
-    | inl same ↦ (0, omega arith, eqb-true x at same)
-    | inr other ↦ contains_more x at xs (contained_by_times at xs (omega (arith, times_cons at x xs false other)))
-  ]
+  | inl same ↦ (0, omega arith, eqb-true x at same)
+  | inr other ↦ contains_more x at xs (contained_by_times at xs (omega (arith, times_cons at x xs false other)))
+]
 
 get_of : (xs : List ℕ) (place at : ℕ) → place < length xs → slice_index_or xs place at ≡ at → slice_get xs place ≡ Some at
 get_of xs place at inside is = slice_get-get_or xs place at inside ∙ ap (λ (n : ℕ). Some n) is
@@ -53,14 +53,14 @@ none_twice_from (x ∷ xs) h =
 pub none_twice_to : (xs : List ℕ) (at : ℕ) → NoneTwice xs → times_in at xs ≤ 1
 none_twice_to [] at h = omega arith
 none_twice_to (x ∷ xs) at h = elim (cases_Bool (x == at)) [
-    | inl same ↦
+  | inl same ↦
       let none : times_in at xs < 1 = elim (cases_lt (times_in at xs) 1) [
         | inl none ↦ none
         | inr some ↦ absurd (h.0 (subst (λ (a : ℕ). Contains xs a) (sym (eqb-true x at same)) (contained_by_times at xs some)))
       ] in
       omega (arith, times_cons at x xs true same)
-    | inr other ↦ omega (arith, times_cons at x xs false other, none_twice_to xs at h.1)
-  ]
+  | inr other ↦ omega (arith, times_cons at x xs false other, none_twice_to xs at h.1)
+]
 
 -- ---- each block that is reached is taken
 
@@ -77,12 +77,12 @@ reach_taken (suc level) table is_root at h =
 -- where the table's own addresses are reached once at most, each is
 pub once_by_numbers : (table : Table) (reach : List ℕ) → All (IsTaken table) reach → ((number : ℕ) → number < length table.slots → times_in (number * 4096) reach ≤ 1) → NoneTwice reach
 once_by_numbers table reach taken h = none_twice_from reach (λ at. elim (cases_lt (times_in at reach) 1) [
-    | inl none ↦ omega arith
-    | inr some ↦
+  | inl none ↦ omega arith
+  | inr some ↦
       let there = All-contains (IsTaken table) reach at taken (contained_by_times at reach some) in
       let same : at / 4096 * 4096 ≡ at = omega (arith, there.allowed.aligned) in
       subst (λ (a : ℕ). times_in a reach ≤ 1) same (h (at / 4096) there.allowed.inside)
-  ])
+])
 
 -- ---- a node's children, one by one
 

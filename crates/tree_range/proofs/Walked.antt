@@ -1,5 +1,5 @@
 -- A step of a range, where the leaf is read from the bytes of its block.
-use Rattle.std.proofs.Common.{◌≡◌, ◌+◌, ℕ, true, false, List, [], ◌∷◌, slice_get, refl, ap, ◌∙◌, sym, subst, Some}
+use Rattle.std.proofs.Common.{◌≡◌, ◌+◌, ℕ, true, false, List, [], ◌∷◌, slice_get, ap, ◌∙◌, sym, subst, Some}
 use Rattle.blk_base.specs.declared.key.Key.{Key}
 use Rattle.blk_base.specs.Keys.{key_below}
 use Rattle.blk_base.specs.Leaf.{Item}

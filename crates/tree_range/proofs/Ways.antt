@@ -1,5 +1,5 @@
 -- A step down a tree keeps to the way to the leaf where a key belongs.
-use Rattle.std.proofs.Common.{arith, Ok, ◌-◌, ◌<◌, ◌≤◌, ◌≡◌, ℕ, zero, suc, Bool, true, false, List, [], ◌∷◌, ◌++◌, length, refl, ap, ◌∙◌, sym, subst, Option, Some, None, ◌⊎◌, inl, inr, append_assoc}
+use Rattle.std.proofs.Common.{arith, Ok, ◌-◌, ◌<◌, ◌≤◌, ◌≡◌, ℕ, suc, true, false, List, [], ◌∷◌, ◌++◌, length, refl, ap, ◌∙◌, sym, subst, Option, Some, None, ◌⊎◌, inl, inr, append_assoc}
 use Rattle.std.specs.Prelude.{All}
 use Rattle.std.specs.List.{flat_map}
 use Rattle.std.proofs.lemmas.List.{append-nil}
@@ -12,13 +12,13 @@ use Rattle.block_table.specs.declared.tree.Tree.{Tree}
 use Rattle.block_table.specs.Table.{Table}
 use Rattle.block_table.specs.TreeIn.{ItemsRise, block_at, first_key}
 use Rattle.leaf_view.specs.KeyOrder.{KeyBelow_trans}
-use Rattle.tree_range.specs.Shape.{IsSubtree, IsTree, items_below, reach_below, node_pointers, tree_items, tree_reach}
+use Rattle.tree_range.specs.Shape.{IsTree, items_below, reach_below, node_pointers, tree_items, tree_reach}
 use Rattle.tree_range.specs.Between.{AreBelow, AreAbove}
-use Rattle.tree_range.specs.Path.{IsChild, IsChildPlace, IsPath, key_behind}
+use Rattle.tree_range.specs.Path.{IsChild, IsPath, key_behind}
 use Rattle.leaf_view.proofs.NodeLaws.{node_body_means}
 use Rattle.tree_range.proofs.Bodies.{node_pointers_are}
 use Rattle.tree_range.proofs.Law.{Child}
-use Rattle.tree_range.proofs.Rise.{All-left, All-right, HasFirst, first_is, first_append, above_from_first, rise_before, rise_head, rise_right}
+use Rattle.tree_range.proofs.Rise.{All-right, HasFirst, first_is, first_append, above_from_first, rise_before, rise_head, rise_right}
 
 -- the way begins at the root
 pub start : (table : Table) (tree : Tree) (key : Key) → IsTree table tree → IsPath table tree tree.level key tree.root.0 None
@@ -99,9 +99,9 @@ step table tree level key at next child behind is_tree path is_child =
     let middle = f c.pointer in
     let right = flat_map f c.rights in
     let items : tree_items table tree ≡ (path.before ++ left) ++ (middle ++ (right ++ path.after)) =
-      path.items ∙ ap (λ (l : List Item). path.before ++ (l ++ path.after)) (cut f pointers c.lefts c.pointer c.rights c.split) ∙ regroup path.before left middle right path.after in
+    path.items ∙ ap (λ (l : List Item). path.before ++ (l ++ path.after)) (cut f pointers c.lefts c.pointer c.rights c.split) ∙ regroup path.before left middle right path.after in
     let is_cut : IsCut (tree_items table tree) path.before left middle right path.after c.pointer.key =
-      record { is = items; rise = is_tree.order; first = first_is middle c.pointer.key here.1 } in
+    record { is = items; rise = is_tree.order; first = first_is middle c.pointer.key here.1 } in
     let rise_behind : ItemsRise (right ++ path.after) = rise_right middle (right ++ path.after) (rise_right (path.before ++ left) (middle ++ (right ++ path.after)) (subst ItemsRise items is_tree.order)) in
     let below : AreBelow key (path.before ++ left) = elim c.low [
       | inl e ↦ All-append (λ (item : Item). KeyBelow item.0 key) path.before left path.below (All-same (λ (item : Item). KeyBelow item.0 key) left [] (ap (flat_map f) e) (All-nil (λ (item : Item). KeyBelow item.0 key)))

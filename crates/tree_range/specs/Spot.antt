@@ -1,12 +1,11 @@
 -- Places of items in leaves of a tree.
-use Rattle.std.specs.Prelude.{◌≡◌, ◌≤◌, ◌<◌, Bool, List, ◌++◌, length, drop, Option}
-use Rattle.blk_base.specs.declared.key.Key.{Key}
+use Rattle.std.specs.Prelude.{◌≡◌, ◌≤◌, ◌<◌, Bool, List, ◌++◌, length, drop}
 use Rattle.blk_base.specs.Leaf.{Item}
 use Rattle.block_table.specs.declared.tree.Tree.{Tree}
 use Rattle.block_table.specs.Table.{Table}
 use Rattle.block_table.specs.TreeIn.{first_key}
 use Rattle.tree_range.specs.Shape.{IsSubtree, leaf_items, tree_items}
-use Rattle.tree_range.specs.Between.{items_from_some, items_up_to}
+use Rattle.tree_range.specs.Between.{items_from_some}
 use Rattle.tree_range.specs.Path.{key_here}
 use Rattle.tree_range.specs.declared.spot.Spot.{Spot}
 

@@ -77,13 +77,7 @@ fn is_node_part(block: &Block, first: Option<Key>) -> bool
 }
 
 /// Whether a part of a tree stands below a block, from the first key on, with all keys below the next.
-fn is_part(
-    table: &BlockTable,
-    level: u8,
-    at: Addr,
-    first: Option<Key>,
-    next: Option<Key>,
-) -> bool
+fn is_part(table: &BlockTable, level: u8, at: Addr, first: Option<Key>, next: Option<Key>) -> bool
     ensures { IsTrue result ↔ IsPart level table.now at.0 first next }
 {
     if !is_taken(table, at) {

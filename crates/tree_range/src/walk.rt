@@ -39,12 +39,7 @@ impl<'t> Model for Range<'t> {
 
 impl<'t> Range<'t> {
     /// The items from one key to another.
-    pub(crate) fn from_key(
-        table: &'t BlockTable,
-        tree: &Tree,
-        first: &Key,
-        last: &Key,
-    ) -> Range<'t>
+    pub(crate) fn from_key(table: &'t BlockTable, tree: &Tree, first: &Key, last: &Key) -> Range<'t>
         requires { IsTree table.now tree.now }
         ensures { result ≡ items_between first.now last.now (tree_items table.now tree.now) }
     {

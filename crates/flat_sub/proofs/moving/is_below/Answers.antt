@@ -1,4 +1,4 @@
-use Rattle.std.proofs.Common.{◌≡◌, ◌<◌, nat_lt, length, drop, length-drop, sym, ap, ◌∙◌, arith}
+use Rattle.std.proofs.Common.{◌<◌, length, drop, length-drop, sym, ◌∙◌, arith}
 use Rattle.flat_model.specs.Walk.{is_below}
 use Rattle.flat_sub.proofs.Movings.{below_end}
 use Rattle.flat_sub.proofs.moving.is_below.Goals.{then-loop-at-test+else-at-lowers, else-loop-at-test}

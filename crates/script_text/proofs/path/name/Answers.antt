@@ -1,6 +1,5 @@
-use Rattle.std.proofs.Common.{◌≡◌, List, ℕ, Ok, ap, sym, ◌∙◌}
+use Rattle.std.proofs.Common.{List, ℕ, Ok, ap, sym, ◌∙◌}
 use Rattle.std.proofs.lemmas.Bool.{false≢true}
-use Rattle.script_text.specs.Words.{text_of}
 use Rattle.script_text.proofs.WordLemmas.{name_is, name_is_none, spells_so}
 use Rattle.script_text.proofs.path.name.Goals as goal
 

@@ -1,5 +1,4 @@
-use Rattle.std.proofs.Common.{Err, Ok, ok_or, ap, sym, ◌∙◌, arith}
-use Rattle.script_text.specs.Words.{text_of}
+use Rattle.std.proofs.Common.{sym}
 use Rattle.script_text.proofs.WordLemmas.{text_escapes, text_is_cut, text_is_whole}
 use Rattle.script_text.proofs.text.text.Goals as goal
 

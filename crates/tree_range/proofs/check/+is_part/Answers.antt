@@ -1,4 +1,4 @@
-use Rattle.std.proofs.Common.{◌≡◌, ◌<◌, ◌≤◌, ◌-◌, ℕ, List, sym, subst, ◌∙◌, refl, arith, length, below_more}
+use Rattle.std.proofs.Common.{◌≡◌, ◌-◌, ℕ, List, sym, subst, ◌∙◌, refl, arith, below_more}
 use Rattle.tree_range.specs.Part.{IsChildPart, IsLeafPart, IsPart}
 use Rattle.tree_range.proofs.Parts.{child_part, child_part_above, leaf_from_part, node_part_above, part_above, part_from_leaf, part_of_child}
 use Rattle.tree_range.proofs.check.+is_part.Goals as goal

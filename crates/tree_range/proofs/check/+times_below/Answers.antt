@@ -1,4 +1,4 @@
-use Rattle.std.proofs.Common.{◌≡◌, ◌+◌, ◌-◌, ◌<◌, ◌≤◌, min, ℕ, false, [], ◌∷◌, sym, ap, ◌∙◌, arith, length}
+use Rattle.std.proofs.Common.{◌-◌, min, ℕ, false, [], ◌∷◌, ap, ◌∙◌, arith}
 use Rattle.tree_range.specs.Part.{times_in}
 use Rattle.tree_range.proofs.Times.{child_shape, times_all, times_more}
 use Rattle.tree_range.proofs.check.+times_below.Goals as goal

@@ -1,4 +1,4 @@
-use Rattle.std.proofs.Common.{◌≡◌, ◌*◌, ◌<◌, ◌≤◌, min, ℕ, true, length, refl, arith}
+use Rattle.std.proofs.Common.{◌*◌, true, refl, arith}
 use Rattle.tree_range.specs.Shape.{tree_reach}
 use Rattle.tree_range.proofs.Times.{none_twice_to, once_by_numbers, reach_taken}
 use Rattle.tree_range.proofs.check.is_reached_once.Goals as goal

@@ -1,5 +1,5 @@
-use Rattle.std.proofs.Common.{arith, ◌+◌}
-use Rattle.tree_range.proofs.Children.{key_behind_at, key_behind_past}
+use Rattle.std.proofs.Common.{◌+◌}
+use Rattle.tree_range.proofs.Children.{key_behind_at}
 use Rattle.tree_range.proofs.descent.key_after.Goals as goal
 
 pub returns-then-place-count : goal.returns-then-place-count

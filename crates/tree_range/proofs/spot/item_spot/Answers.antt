@@ -1,5 +1,4 @@
-use Rattle.std.proofs.Common.{arith, ap, ◌≤◌, ◌<◌, length}
-use Rattle.tree_range.specs.Shape.{leaf_items}
+use Rattle.std.proofs.Common.{arith, ap, length}
 use Rattle.tree_range.proofs.Looked.{leaf_is}
 use Rattle.tree_range.proofs.Spots.{here, none_left, there}
 use Rattle.tree_range.proofs.spot.item_spot.Goals as goal

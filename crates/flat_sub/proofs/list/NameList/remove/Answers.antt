@@ -1,6 +1,6 @@
-use Rattle.std.proofs.Common.{◌≡◌, ◌<◌, suc, List, length, drop, sym, ap, ◌∙◌, arith}
+use Rattle.std.proofs.Common.{◌≡◌, List, sym, ap, ◌∙◌, arith}
 use Rattle.std.specs.List.{remove}
-use Rattle.flat_model.specs.Names.{FlatName, is_name_set, remove_name}
+use Rattle.flat_model.specs.Names.{FlatName, is_name_set}
 use Rattle.flat_model.proofs.NameSets.{is_name_set_remove, remove_name_absent}
 use Rattle.flat_sub.specs.View.{name_view, names_view}
 use Rattle.flat_sub.proofs.Placed.{length_view}

@@ -1,9 +1,9 @@
-use Rattle.std.proofs.Common.{List, suc, drop, ap, sym, subst, ◌∙◌, arith}
+use Rattle.std.proofs.Common.{List, ap, sym, subst, ◌∙◌, arith}
 use Rattle.flat_model.specs.Names.{FlatName, remove_name}
 use Rattle.flat_model.specs.Operations.{names_without}
 use Rattle.flat_sub.specs.Ends.{IsEnd}
 use Rattle.flat_sub.specs.Lists.{list_view}
-use Rattle.flat_sub.specs.View.{name_view, names_view}
+use Rattle.flat_sub.specs.View.{names_view}
 use Rattle.flat_sub.proofs.Placed.{length_view, drop_view}
 use Rattle.flat_sub.proofs.Removals.{drop_below}
 use Rattle.flat_sub.proofs.Movings.{same_head}

@@ -1,4 +1,4 @@
-use Rattle.std.proofs.Common.{Some, ap, sym, ◌∙◌}
+use Rattle.std.proofs.Common.{ap, sym, ◌∙◌}
 use Rattle.flat_sub.specs.Ends.{with_sub}
 use Rattle.flat_sub.specs.Moves.{without_lost}
 use Rattle.flat_sub.specs.View.{sub_view}

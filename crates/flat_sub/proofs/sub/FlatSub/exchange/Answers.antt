@@ -1,4 +1,3 @@
-use Rattle.std.proofs.Common.{sym, ◌∙◌}
 use Rattle.flat_sub.specs.View.{sub_view}
 use Rattle.flat_sub.proofs.Renames.{exchange_refused}
 use Rattle.flat_sub.proofs.sub.FlatSub.exchange.Goals as goal

@@ -1,4 +1,4 @@
-use Rattle.std.proofs.Common.{sym, ap, not, ◌∙◌}
+use Rattle.std.proofs.Common.{sym, ◌∙◌}
 use Rattle.flat_sub.proofs.Rows.{and_first, and_second}
 use Rattle.flat_sub.proofs.sub.FlatSub.moves_dir_onto_other.Goals as goal
 

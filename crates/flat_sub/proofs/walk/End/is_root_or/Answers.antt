@@ -1,4 +1,4 @@
-use Rattle.std.proofs.Common.{sym, ap, not, ◌∙◌}
+use Rattle.std.proofs.Common.{sym, ◌∙◌}
 use Rattle.flat_sub.proofs.Rows.{or_first, or_second}
 use Rattle.flat_sub.proofs.walk.End.is_root_or.Goals as goal
 

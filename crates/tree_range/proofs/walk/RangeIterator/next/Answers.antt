@@ -1,4 +1,4 @@
-use Rattle.std.proofs.Common.{arith, ap, length, ◌<◌, ◌≤◌, ◌≡◌, ◌∙◌, sym, true, false, []}
+use Rattle.std.proofs.Common.{arith, ap, length, ◌≡◌, ◌∙◌, sym, true, false, []}
 use Rattle.blk_base.specs.Keys.{key_below}
 use Rattle.tree_range.proofs.Looked.{leaf_is, most_of}
 use Rattle.tree_range.proofs.Walked.{ends_at, further_at, goes_on}

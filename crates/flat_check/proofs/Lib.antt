@@ -1,0 +1,5 @@
+mod Views
+mod Steps
+mod Fitting
+mod Coherence
+mod Entries

@@ -1,0 +1,7 @@
+//! Whether a flat subvolume is coherent, decided without memory.
+#![tactic(auto)]
+
+mod inodes;
+mod items;
+mod names;
+mod ways;

@@ -1,0 +1,5 @@
+use Rattle.std.proofs.Common.{◌≡◌, ℕ, List, ◌<◌, get_or}
+use Rattle.flat_record.proofs.attribute_items.are_same.Given as goal
+
+abbrev pub invariant-loop-place : goal.invariant-loop-place
+invariant-loop-place l = (k : ℕ) (d : List ℕ × List ℕ) → k < l.place → get_or l.one.items k d ≡ get_or l.two.items k d

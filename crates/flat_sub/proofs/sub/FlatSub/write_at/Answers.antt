@@ -1,0 +1,45 @@
+use Rattle.std.proofs.Common.{◌≡◌, Some, sym, ap, ◌∙◌}
+use Rattle.std.specs.FinMap.{insert}
+use Rattle.flat_model.specs.Contents.{written}
+use Rattle.flat_model.specs.Operations.{file_there, no_file}
+use Rattle.flat_model.specs.Records.{InodeRecord, FileInode}
+use Rattle.flat_model.specs.Volume.{RunSub, is_dir_there, is_link_there}
+use Rattle.flat_sub.specs.Editing.{with_record_of}
+use Rattle.flat_sub.specs.View.{sub_view}
+use Rattle.flat_sub.proofs.Inodes.{on_ok, is_file, record_here, record_nowhere, record_set, rising_set, with_inodes}
+use Rattle.flat_sub.proofs.sub.FlatSub.write_at.Goals as goal
+
+pub write-requires-clause-file : goal.write-requires-clause-file
+write-requires-clause-file c =
+    let here = record_here c.args.self.now.inodes.items c.args.ino c.in-Some.at c.index_mut-entry.result.now c.in-Some.ensures c.index_mut-entry.ensures.value in
+    is_file c.index_mut-entry.result.now.1 (c.requires.no_dir ∙ ap is_dir_there here) (c.requires.no_link ∙ ap is_link_there here)
+
+pub returns-in-Some-clause-ok : goal.returns-in-Some-clause-ok
+returns-in-Some-clause-ok c =
+    let run : RunSub = sub_view c.args.self.now in
+    let items = c.args.self.now.inodes.items in
+    let lent = c.index_mut-entry.result.now in
+    let here = record_here items c.args.ino c.in-Some.at lent c.in-Some.ensures c.index_mut-entry.ensures.value in
+    on_ok c.write.result (λ done.
+    ap (with_inodes run) (record_set items c.args.ino c.in-Some.at lent c.write.new.self c.in-Some.ensures c.index_mut-entry.ensures.value
+    ∙ ap (insert run.sub.inodes c.args.ino) (done ∙ ap (λ r. FileInode (written (file_there r) c.args.offset c.args.text.now)) (sym here)))) c.write.ensures.ok
+
+pub returns-in-Some-clause-kept : goal.returns-in-Some-clause-kept
+returns-in-Some-clause-kept c =
+    let kept = c.requires.kept in
+    record {
+      marked = kept.marked;
+      in_order = kept.in_order;
+      inodes_rise = rising_set c.args.self.now.inodes.items c.in-Some.at c.index_mut-entry.result.now c.write.new.self c.index_mut-entry.ensures.value ∙ kept.inodes_rise;
+      indexes_rise = kept.indexes_rise;
+      covered = kept.covered;
+      least = kept.least;
+      each_least = kept.each_least;
+    }
+
+pub returns-in_ok-write-in-None-clause-ok : goal.returns-in_ok-write-in-None-clause-ok
+returns-in_ok-write-in-None-clause-ok c =
+    let run : RunSub = sub_view c.args.self.now in
+    let nowhere = record_nowhere c.args.self.now.inodes.items c.args.ino c.in-None.ensures in
+    let made : c.write-in-None.new.self ≡ FileInode (written no_file c.args.offset c.args.text.now) = c.in_ok-write-in-None.ensures.ok ∙ ap (λ (inode : InodeRecord). FileInode (written (file_there (Some inode)) c.args.offset c.args.text.now)) c.new-file.ensures in
+    on_ok c.put_record.result (λ put. put ∙ ap (with_record_of run c.args.ino) (made ∙ sym (ap (λ r. FileInode (written (file_there r) c.args.offset c.args.text.now)) nowhere))) c.put_record.ensures.ok

@@ -1,0 +1,4 @@
+pub mod Listing
+pub mod Put
+pub mod Apart
+pub mod Orders
