@@ -1,5 +1,4 @@
 pub mod Listing
 pub mod Order
 pub mod Found
-pub mod Inodes
 pub mod Parts

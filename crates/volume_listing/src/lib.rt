@@ -8,7 +8,8 @@ mod lines;
 mod listing;
 mod order;
 mod sink;
-mod stubs;
+#[cfg(test)]
+mod tests;
 mod text;
 mod walk;
 

@@ -2,14 +2,13 @@
 ghost use Rattle.std.specs.Prelude.{◌≡◌, ◌≤◌, ◌+◌, ◌*◌, ◌++◌, OnOk, IfOk, Some, option_map, unwrap_or, [], length, filter, sum_by, count_by, nat_eq, vec_len};
 ghost use Rattle.std.specs.FinMap.{get};
 ghost use Rattle.flat_model.specs.Records.{attributes_of};
-ghost use Rattle.volume_listing.specs.Inodes.{target_of};
+ghost use Rattle.flat_record.specs.Reading.{target_of};
 ghost use Rattle.blk_base.specs.Crc.{crc32c_of};
 ghost use Rattle.flat_model.specs.Contents.{bytes_read};
 ghost use Rattle.flat_model.specs.Operations.{file_there};
 ghost use Rattle.flat_sub.specs.View.{sub_view, IsWellKept};
 ghost use Rattle.volume_listing.specs.Listing.{kind_word, links_shown, size_shown, sum_shown, step_shown, path_shown, target_shown, word, printed, line_of, attribute_line, attribute_lines, lines_at, is_there, lines_of, count_of};
 
-use crate::stubs::{attribute_at, attribute_count, inode_bytes, inode_size, target};
 use crate::text::{bytes_of, put_number_word, put_printed, put_sum};
 use crate::walk::{Found, all_of};
 use blk_base::{Name, OutOfMemory, Text, crc32c};
@@ -17,6 +16,9 @@ use flat_model::{Kind, NameAt};
 use flat_record::{Inode, place_of};
 use flat_sub::FlatSub;
 use std::alloc::Global;
+
+/// How many names a line shows of a directory.
+const DIRECTORY_LINKS: usize = 1;
 
 /// The inode of this number, where it is there.
 fn inode_of(sub: &FlatSub, ino: u64) -> Option<&Inode>
@@ -57,10 +59,9 @@ fn links_shown(sub: &FlatSub, ino: u64, inode: &Inode) -> usize
     requires { IsWellKept sub.now }
     ensures { result ≡ links_shown (sub_view sub.now).sub ino inode.now }
 {
-    if inode.kind() == Kind::Dir {
-        1
-    } else {
-        count_leading(&sub.names, ino)
+    match inode.kind() {
+        Kind::Dir => DIRECTORY_LINKS,
+        Kind::File | Kind::Link => count_leading(&sub.names, ino),
     }
 }
 
@@ -68,7 +69,7 @@ fn links_shown(sub: &FlatSub, ino: u64, inode: &Inode) -> usize
 fn target_length(inode: &Inode) -> usize
     ensures { result ≡ length (unwrap_or (target_of inode.now) []) }
 {
-    match target(inode) {
+    match inode.target() {
         Some(target) => target.len(),
         None => 0,
     }
@@ -80,7 +81,7 @@ fn size_shown(sub: &FlatSub, ino: u64, inode: &Inode) -> u128
     ensures { result ≡ size_shown (sub_view sub.now).sub ino inode.now }
 {
     match inode.kind() {
-        Kind::File => u128::from(inode_size(inode)),
+        Kind::File => u128::from(inode.size()),
         Kind::Dir => 2 * sum_lengths(&sub.names, ino),
         Kind::Link => target_length(inode) as u128,
     }
@@ -103,7 +104,7 @@ fn put_kind_word(text: &mut Vec<u8>, kind: Kind) -> Result<(), OutOfMemory>
 fn sum_of(alloc: Global, inode: &Inode) -> Result<u32, OutOfMemory>
     ensures { IfOk result (λ sum. let file = file_there (Some inode.now) in sum ≡ crc32c_of (bytes_read file 0 file.size)) }
 {
-    let content = inode_bytes(inode, alloc, 0, inode_size(inode))?;
+    let content = inode.read(alloc, 0, inode.size())?;
     let bytes = bytes_of(alloc, &content)?;
     Ok(crc32c(&bytes))
 }
@@ -156,7 +157,7 @@ fn put_text(alloc: Global, text: &mut Vec<u8>, added: &Text) -> Result<(), OutOf
 fn put_target(alloc: Global, text: &mut Vec<u8>, inode: &Inode) -> Result<(), OutOfMemory>
     ensures { OnOk result (text.new.items ≡ text.old.items ++ target_shown inode.now) }
 {
-    match target(inode) {
+    match inode.target() {
         Some(target) => {
             text.push(b' ')?;
             put_text(alloc, text, target)
@@ -204,8 +205,8 @@ fn put_attribute(alloc: Global, text: &mut Vec<u8>, name: &Name, value: &Text) -
 fn put_attributes(alloc: Global, text: &mut Vec<u8>, inode: &Inode) -> Result<(), OutOfMemory>
     ensures { OnOk result (text.new.items ≡ text.old.items ++ attribute_lines (attributes_of inode.now)) }
 {
-    for place in 0..attribute_count(inode) {
-        let (name, value) = attribute_at(inode, place);
+    for place in 0..inode.attribute_count() {
+        let (name, value) = inode.attribute_at(place);
         put_attribute(alloc, text, name, value)?;
     }
     Ok(())

@@ -1,4 +1,4 @@
-use Rattle.std.proofs.Common.{◌++◌, List, ℕ, sym, ap, ◌∙◌, append_nil}
+use Rattle.std.proofs.Common.{◌++◌, List, ℕ, sym, ap, ◌∙◌, append-nil}
 use Rattle.std.specs.FinMap.{get}
 use Rattle.flat_model.specs.Records.{attributes_of}
 use Rattle.flat_sub.specs.View.{sub_view}
@@ -20,4 +20,4 @@ pub returns-in-None-clause-text : goal.returns-in-None-clause-text
 returns-in-None-clause-text c =
     let sub = (sub_view c.args.sub.now).sub in
     let none = c.in-None.ensures ∙ ap (λ (l : Listed). get sub.inodes l.ino) c.found.view_is in
-    sym (append_nil _) ∙ ap (λ (more : List ℕ). c.args.text.now.items ++ more) (sym (lines_none sub c.args.found.now none))
+    sym (append-nil _) ∙ ap (λ (more : List ℕ). c.args.text.now.items ++ more) (sym (lines_none sub c.args.found.now none))
