@@ -10,6 +10,8 @@ mod reading;
 #[cfg(test)]
 mod script;
 #[cfg(test)]
+mod subvolumes;
+#[cfg(test)]
 mod tests;
 #[cfg(test)]
 mod told;
