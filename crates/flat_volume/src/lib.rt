@@ -9,7 +9,6 @@ mod putting;
 mod reading;
 #[cfg(test)]
 mod script;
-#[cfg(test)]
 mod subvolumes;
 #[cfg(test)]
 mod tests;
