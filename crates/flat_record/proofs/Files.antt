@@ -1,13 +1,13 @@
 -- Facts on the blocks of a file by their numbers.
 use Rattle.std.proofs.Common.{◌≡◌, ℕ, zero, suc, ◌<◌, ◌≤◌, ◌+◌, ◌*◌, ◌-◌, ◌/◌, ◌%◌, min, max, Bool, true, false, cond, ◌&&◌, List, [], ◌∷◌, ◌++◌, map, set, length, get_or, replicate, slice_index, Option, Some, None, unwrap_or, fold, Result, Ok, Err, refl, sym, ap, subst, ◌∙◌, arith, inl, inr, nat_lt, nat_le}
-use Rattle.std.specs.Ordering.{nat_cmp, eq_by_cmp, is_lt}
+use Rattle.std.specs.Ordering.{nat_cmp, is_lt}
 use Rattle.std.specs.declared.cmp.Ordering.TheVariants.{Equal}
 use Rattle.std.specs.Cmp.{nat_cmp_total, ranked}
 use Rattle.std.specs.Bool.{◌==◌}
 use Rattle.std.specs.List.{position, range_with_len, filter}
 use Rattle.std.specs.FinMap.{FinMap, get, insert, retain_keys, from_entries, get-from_entries, get-retain_keys, same_map, nat_cmp-IsAntisymmetric}
 use Rattle.std.specs.FinMap.Entries.{is_sorted, find-where_key, is_sorted-where_key, below_all}
-use Rattle.std.proofs.lemmas.Bool.{eqb-true, cases_lt, lt-ltb, le-ltb, lt-leb, le-leb}
+use Rattle.std.proofs.lemmas.Bool.{eqb-true, cases_lt, lt-ltb, le-ltb}
 use Rattle.flat_model.specs.Records.{Blocks}
 use Rattle.flat_model.specs.Contents.{block_of, byte_at, byte_written, block_written, with_cut_block, cut_block}
 use Rattle.flat_model.specs.Records.{Attributes}

@@ -1,13 +1,13 @@
 -- Facts on the entries of maps in order, on the limits of records, and on what attributes take in items.
-use Rattle.std.proofs.Common.{◌≡◌, ◌≢◌, ℕ, zero, suc, ◌<◌, ◌≤◌, ◌+◌, ◌-◌, ◌^◌, min, Bool, true, false, cond, not, ◌&&◌, ◌⊎◌, inl, inr, ◌↔◌, IsTrue, List, [], ◌∷◌, length, get_or, bytes_eq, Option, Some, None, refl, sym, ap, subst, ◌∙◌, arith}
+use Rattle.std.proofs.Common.{◌≡◌, ◌≢◌, ℕ, zero, suc, ◌<◌, ◌≤◌, ◌+◌, ◌-◌, ◌^◌, min, Bool, true, false, cond, not, ◌&&◌, ◌⊎◌, inl, inr, ◌↔◌, IsTrue, List, [], ◌∷◌, length, get_or, Some, None, refl, sym, ap, subst, ◌∙◌, arith}
 use Rattle.std.specs.declared.cmp.Ordering.{Ordering}
 use Rattle.std.specs.declared.cmp.Ordering.TheVariants.{Less, Equal, Greater}
-use Rattle.std.specs.Ordering.{eq_by_cmp, is_eq, is_lt, ordering_reverse}
+use Rattle.std.specs.Ordering.{is_eq, ordering_reverse}
 use Rattle.std.specs.Bool.{nat_eq, nat_lt}
 use Rattle.std.specs.Cmp.{IsTotalOrder, tied_itself}
-use Rattle.std.specs.Cmp.Lexicographic.{nat_list_cmp_total, texts_ties}
+use Rattle.std.specs.Cmp.Lexicographic.{nat_list_cmp_total}
 use Rattle.std.specs.List.{All, filter, sum_by}
-use Rattle.std.specs.FinMap.{FinMap, IsAntisymmetric, entries, empty, get, insert, from_entries, get-from_entries, entries-insert}
+use Rattle.std.specs.FinMap.{FinMap, IsAntisymmetric, entries, get, insert, from_entries, get-from_entries, entries-insert}
 use Rattle.std.specs.FinMap.Entries.{find, put, by_order, below_all, is_sorted}
 use Rattle.std.proofs.lemmas.Bool.{true≢false, and_parts, cases_eq, cases_lt, eq-eqb, eqb-true, ne_eqb, lt-ltb, le-ltb}
 use Rattle.std.proofs.lemmas.List.Sums.{sum_by-cons}
@@ -19,9 +19,9 @@ use Rattle.flat_model.proofs.Maps.{some_none, some_same}
 use Rattle.flat_record.specs.declared.record.Contents.{Contents}
 use Rattle.flat_record.specs.declared.record.Contents.TheVariants as contents
 use Rattle.flat_record.specs.RecordView.{record_view}
-use Rattle.flat_record.specs.AttributeShares.{is_other, share_of}
+use Rattle.flat_record.specs.AttributeShares.{share_of}
 use Rattle.flat_record.proofs.Tables.{entries_rising, is_less}
-use Rattle.flat_record.proofs.Orders.{name_order, names_apart, same_bytes, itself_bytes, is_equal}
+use Rattle.flat_record.proofs.Orders.{name_order, names_apart, same_bytes, itself_bytes}
 
 module _ {K X : Type 0} {R : K → K → Ordering} (o : IsTotalOrder R) where
   -- the entries of the map that a list in order stands for

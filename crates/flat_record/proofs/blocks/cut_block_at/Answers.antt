@@ -1,4 +1,4 @@
-use Rattle.std.proofs.Common.{ℕ, List, ◌/◌, ◌%◌, set, sym, ap, ◌∙◌}
+use Rattle.std.proofs.Common.{ℕ, List, ◌/◌, ◌%◌, set, ap, ◌∙◌}
 use Rattle.std.specs.FinMap.{from_entries}
 use Rattle.flat_model.specs.Contents.{cut_block}
 use Rattle.flat_record.proofs.Files.{map_cut, map_uncut, key_at, no_place, rising_set}

@@ -1,5 +1,4 @@
-use Rattle.std.proofs.Common.{◌≡◌, ℕ, ◌+◌, ◌/◌, List, nat_lt, ap, ◌∙◌, rules}
-use Rattle.std.specs.List.{filter}
+use Rattle.std.proofs.Common.{◌+◌, ◌/◌, nat_lt, ap, ◌∙◌, rules}
 use Rattle.std.specs.Ordering.{nat_cmp}
 use Rattle.std.specs.FinMap.{from_entries, retain_keys, is_sorted}
 use Rattle.std.proofs.lemmas.Fn.{filter_same}

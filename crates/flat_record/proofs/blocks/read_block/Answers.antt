@@ -1,4 +1,4 @@
-use Rattle.std.proofs.Common.{◌≡◌, ap, ◌/◌, ◌∙◌, arith}
+use Rattle.std.proofs.Common.{◌/◌, ◌∙◌, arith}
 use Rattle.std.specs.FinMap.{from_entries}
 use Rattle.flat_model.specs.Contents.{byte_at}
 use Rattle.flat_record.proofs.Files.{push_more, byte_of_file}

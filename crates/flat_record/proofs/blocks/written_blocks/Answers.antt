@@ -1,4 +1,4 @@
-use Rattle.std.proofs.Common.{◌≡◌, ◌+◌, ◌-◌, ◌/◌, [], map, ap, sym, ◌∙◌, arith}
+use Rattle.std.proofs.Common.{◌/◌, [], ap, ◌∙◌, arith}
 use Rattle.std.specs.FinMap.{from_entries}
 use Rattle.flat_record.proofs.Files.{push_more, written_entry}
 use Rattle.flat_record.proofs.blocks.written_blocks.Goals as goal

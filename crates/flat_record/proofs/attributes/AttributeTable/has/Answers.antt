@@ -1,4 +1,4 @@
-use Rattle.std.proofs.Common.{ℕ, List, [], sym, ap, ◌∙◌, is_some}
+use Rattle.std.proofs.Common.{[], sym, ap, ◌∙◌, is_some}
 use Rattle.std.specs.FinMap.{get}
 use Rattle.flat_record.proofs.Orders.{get_named, get_unnamed}
 use Rattle.flat_record.proofs.attributes.AttributeTable.has.Goals as goal

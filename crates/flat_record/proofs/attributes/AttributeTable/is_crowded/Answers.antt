@@ -1,4 +1,4 @@
-use Rattle.std.proofs.Common.{◌≡◌, ℕ, List, ◌+◌, ◌-◌, ◌^◌, min, length, Some, ap, ◌∙◌}
+use Rattle.std.proofs.Common.{ℕ, List, ◌+◌, ◌-◌, ◌^◌, min, length, Some, ap, ◌∙◌}
 use Rattle.std.specs.List.{sum_by}
 use Rattle.blk_base.specs.Crc.{name_hash_of}
 use Rattle.flat_record.specs.AttributeShares.{share_of}

@@ -1,4 +1,4 @@
-use Rattle.std.proofs.Common.{length, ap, ◌∙◌, arith}
+use Rattle.std.proofs.Common.{length, ap, arith}
 use Rattle.std.specs.Cmp.{nat_cmp_total}
 use Rattle.flat_record.specs.SizedBlocks.{SizedBlocks}
 use Rattle.flat_record.proofs.Limits.{entries_view}

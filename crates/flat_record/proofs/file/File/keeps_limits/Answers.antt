@@ -1,4 +1,4 @@
-use Rattle.std.proofs.Common.{◌≡◌, ◌≤◌, ℕ, List, ap, sym, subst, refl}
+use Rattle.std.proofs.Common.{ℕ, List, sym, subst, refl}
 use Rattle.std.specs.Cmp.{nat_cmp_total}
 use Rattle.std.specs.FinMap.{nat_cmp-IsAntisymmetric, from_entries}
 use Rattle.flat_model.specs.Coherent.{KeepsFileLimits, KeepsBlockLimits}

@@ -1,8 +1,8 @@
-use Rattle.std.proofs.Common.{◌≡◌, ◌+◌, max, length, map, fold, ap, sym, subst, ◌∙◌, arith}
+use Rattle.std.proofs.Common.{length, fold, ap, ◌∙◌, arith}
 use Rattle.std.specs.FinMap.{from_entries}
 use Rattle.flat_model.specs.Contents.{written, block_written, blocks_touched}
 use Rattle.flat_record.specs.SizedBlocks.{file_of}
-use Rattle.flat_record.proofs.Files.{insert_entry, written_entry, fold_entries, written_is}
+use Rattle.flat_record.proofs.Files.{insert_entry, fold_entries, written_is}
 use Rattle.flat_record.proofs.file.File.write.Goals as goal
 
 pub returns-clause-ok : goal.returns-clause-ok

@@ -1,4 +1,4 @@
-use Rattle.std.proofs.Common.{◌≤◌, ap, sym, subst}
+use Rattle.std.proofs.Common.{◌≤◌, sym, subst}
 use Rattle.flat_model.specs.Lengths.{xattr_item_length}
 use Rattle.flat_record.proofs.Limits.{attributes_seen}
 use Rattle.flat_record.proofs.record.Inode.attributes_fit.Goals as goal

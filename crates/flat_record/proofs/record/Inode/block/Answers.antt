@@ -1,4 +1,4 @@
-use Rattle.std.proofs.Common.{◌≡◌, ℕ, List, Some, length, ap, sym, ◌∙◌, arith}
+use Rattle.std.proofs.Common.{ℕ, List, Some, length, ap, ◌∙◌, arith}
 use Rattle.std.specs.Ordering.{nat_cmp}
 use Rattle.std.specs.FinMap.{entries}
 use Rattle.flat_model.specs.Operations.{file_there}

@@ -1,4 +1,4 @@
-use Rattle.std.proofs.Common.{◌≡◌, Some, sym, ap, ◌∙◌}
+use Rattle.std.proofs.Common.{Some, sym, ap, ◌∙◌}
 use Rattle.flat_model.specs.Contents.{bytes_read}
 use Rattle.flat_model.specs.Operations.{file_there}
 use Rattle.flat_record.specs.RecordView.{record_view}
