@@ -13,12 +13,7 @@ const FIRST: SubId = SubId(5);
 const SECOND: SubId = SubId(256);
 
 /// Whether an operation on a volume gives the answer of these words.
-fn gives(
-    alloc: Global,
-    volume: &mut FlatVolume,
-    words: &str,
-    want: &str,
-) -> Result<bool, Fail> {
+fn gives(alloc: Global, volume: &mut FlatVolume, words: &str, want: &str) -> Result<bool, Fail> {
     let op = operation(alloc, words)?;
     if !crate::is_in_limits(&op) {
         return Err(Fail::from("past its limits"));
