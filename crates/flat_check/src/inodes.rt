@@ -60,9 +60,30 @@ fn has_way_up(sub: &FlatSub, ino: u64, inode: &Inode) -> bool
 
 /// Whether an inode stands rightly among the names of its subvolume: its number is in its range, it has as many names as
 /// its kind allows, and from a directory the way up ends at the root directory.
-pub(crate) fn is_linked(sub: &FlatSub, ino: u64, inode: &Inode) -> bool
+fn is_linked(sub: &FlatSub, ino: u64, inode: &Inode) -> bool
     requires { IsWellKept sub.now }
     ensures { IsTrue result ↔ IsLinked (sub_view sub.now).sub.names ino inode.now }
 {
     is_ino_number(ino) && has_right_links(sub, ino, inode) && has_way_up(sub, ino, inode)
+}
+
+/// Whether an inode is right, by itself and among the names of its subvolume.
+fn is_right(sub: &FlatSub, ino: u64, inode: &Inode) -> bool
+    requires { IsWellKept sub.now }
+    ensures { IsTrue result ↔ IsRightInode (sub_view sub.now).sub.names ino inode.now }
+{
+    is_linked(sub, ino, inode) && inode.keeps_limits() && inode.attributes_fit()
+}
+
+/// Whether each inode of a subvolume is right among its names.
+pub(crate) fn inodes_are_right(sub: &FlatSub) -> bool
+    requires { IsWellKept sub.now }
+    ensures { IsTrue result ↔ ((ino : ℕ) (inode : InodeRecord) → get (sub_view sub.now).sub.inodes ino ≡ Some inode → IsRightInode (sub_view sub.now).sub.names ino inode) }
+{
+    for entry in &sub.inodes {
+        if !is_right(sub, entry.0, &entry.1) {
+            return false;
+        }
+    }
+    true
 }

@@ -1,7 +1,12 @@
 //! Whether a flat subvolume is coherent, decided without memory.
 #![tactic(auto)]
 
+mod check;
 mod inodes;
 mod items;
 mod names;
+#[cfg(test)]
+mod tests;
 mod ways;
+
+pub use check::is_coherent;

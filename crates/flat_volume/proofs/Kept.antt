@@ -44,7 +44,7 @@ below_seen : (k : ℕ) (made : List (ℕ × FlatSub)) → below_all nat_cmp k (s
 below_seen k [] = refl
 below_seen k (e ∷ made) = ap (λ b. is_lt (nat_cmp k e.0) && b) (below_seen k made)
 
-rising_seen : (made : List (ℕ × FlatSub)) → is_sorted nat_cmp (seen made) ≡ is_sorted nat_cmp made
+pub rising_seen : (made : List (ℕ × FlatSub)) → is_sorted nat_cmp (seen made) ≡ is_sorted nat_cmp made
 rising_seen [] = refl
 rising_seen (e ∷ made) = λ j. below_seen e.0 made j && rising_seen made j
 

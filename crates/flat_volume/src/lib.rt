@@ -9,6 +9,7 @@ mod putting;
 mod reading;
 #[cfg(test)]
 mod script;
+mod subvolumes;
 #[cfg(test)]
 mod tests;
 #[cfg(test)]

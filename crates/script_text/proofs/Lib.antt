@@ -1,3 +1,9 @@
 pub mod WordLemmas
 pub mod PartLemmas
 pub mod LineLemmas
+pub mod NumberLaw
+pub mod PartsLaw
+pub mod TextLaw
+pub mod PathLaw
+pub mod RequestLaw
+pub mod ScriptLaw

@@ -63,7 +63,7 @@ silent_regroup : (front : List Line) (read : Result (List Line) (ℕ × ScriptKi
 silent_regroup front (Ok lines) = refl
 silent_regroup front (Err fault) = refl
 
--- what is given at the first line of a rest that isn't empty
+-- what is given at the first line of a rest that is_not empty
 first_line : (number : ℕ) (rest : List ℕ) → 1 ≤ length rest
     → script_from number (lines_of rest) ≡ script_with number (line_of number (before_first (λ byte. eqb byte 10) rest)) (script_from (number + 1) (lines_of (after_first (λ byte. eqb byte 10) rest)))
 unfolding script_from

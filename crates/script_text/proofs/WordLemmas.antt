@@ -1,5 +1,5 @@
 -- Numbers and texts, read byte by byte.
-use Rattle.std.proofs.Common.{◌≡◌, ◌≤◌, ◌<◌, ◌+◌, ℕ, zero, suc, Bool, true, false, cond, List, [], ◌∷◌, ◌++◌, length, drop, slice_index, Option, Some, None, Ok, Err, ok_or, option_to_list, add-one, drop-cons, ap, sym, refl, ◌∙◌, append_assoc, arith}
+use Rattle.std.proofs.Common.{◌≡◌, ◌≤◌, ◌<◌, ℕ, zero, suc, Bool, true, false, cond, List, [], ◌∷◌, ◌++◌, length, drop, slice_index, Option, Some, None, Ok, Err, ok_or, drop-cons, ap, sym, refl, ◌∙◌, arith}
 use Rattle.std.specs.Option.{option_map}
 use Rattle.std.proofs.lemmas.List.{append-nil}
 use Rattle.std.specs.Str.{IsUtf8, is_utf8}
@@ -26,19 +26,9 @@ drop-past {A = A} (suc place) (byte ∷ word) past = drop-past place word (omega
 abbrev pub with_front : List ℕ → Option (List ℕ) → Option (List ℕ)
 with_front front text = option_map (λ back. front ++ back) text
 
-regroup : (front done : List ℕ) (text : Option (List ℕ)) → with_front front (option_map (λ back. done ++ back) text) ≡ with_front (front ++ done) text
-regroup front done None = refl
-regroup front done (Some back) = ap Some (sym (append_assoc front done back))
-
 -- a byte at which the word is none
 pub text_stops : (word front : List ℕ) (spot : Spot) (place : ℕ) → place < length word → next_spot spot (slice_index word place) ≡ None → with_front front (text_from spot (drop place word)) ≡ None
 text_stops word front spot place within stops = rw (drop-cons word place 0 within, stops) refl
-
--- a byte behind which the reading stands at another spot
-pub text_goes_on : (word front : List ℕ) (spot next : Spot) (done : Option ℕ) (place : ℕ) → place < length word → next_spot spot (slice_index word place) ≡ Some (next, done)
-    → with_front front (text_from spot (drop place word)) ≡ with_front (front ++ option_to_list done) (text_from next (drop (place + 1) word))
-text_goes_on word front spot next done place within goes =
-    rw (add-one place, drop-cons word place 0 within, goes) (regroup front (option_to_list done) (text_from next (drop (suc place) word)))
 
 -- the end of a word
 pub text_ends : (word front : List ℕ) (spot : Spot) (place : ℕ) → length word ≤ place → with_front front (text_from spot (drop place word)) ≡ with_front front (text_at_end spot)
@@ -69,6 +59,7 @@ text_is_whole word front spot place past between so_far =
 
 -- ---- names and UTF-8
 
+-- a test that cannot pass fails
 pub false_unless : (b : Bool) → (b ≡ true → ⊥) → b ≡ false
 false_unless true refuted = absurd (refuted refl)
 false_unless false refuted = refl

@@ -3,3 +3,4 @@ pub mod Words
 pub mod Paths
 pub mod Script
 pub mod Parts
+pub mod Grammar

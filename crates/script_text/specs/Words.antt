@@ -1,4 +1,5 @@
--- Words of a script: numbers and texts, and the parts of a list of bytes.
+-- Words of a script: numbers and texts, and the parts of a list of bytes. Bytes stand as their codes: 10 for LF, 32 a space, 35 `#`, 47 `/`,
+-- 48 `0`, 58 `:`, 92 a backslash, 97 `a`, 120 `x`.
 use Rattle.std.specs.Prelude.{ℕ, ◌+◌, ◌-◌, ◌*◌, ◌^◌, ◌&&◌, nat_le, nat_lt, ◌==◌, if◌then◌else◌, List, [], ◌∷◌, ◌++◌, Option, Some, None, Result, ok_or, option_to_list}
 use Rattle.std.specs.Char.{is_ascii_digit}
 use Rattle.std.specs.Option.{option_and_then, option_map}

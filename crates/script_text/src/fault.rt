@@ -9,28 +9,28 @@ use thiserror::Error;
 #[derive(Clone, Copy, Debug, PartialEq, Eq, Error)]
 pub enum ScriptKind {
     /// The line stands behind the 65,536th.
-    #[error("too many lines")]
+    #[error("lines")]
     Lines,
     /// The line isn't UTF-8.
-    #[error("not UTF-8")]
+    #[error("utf8")]
     Utf8,
     /// The first word is no number from 1 to 16.
-    #[error("no caller")]
+    #[error("caller")]
     Caller,
     /// A verb that isn't known, another number of words than the verb has, or an empty word.
-    #[error("no request")]
+    #[error("word")]
     Word,
     /// A backslash in a path or a text that begins neither `\\` nor `\xHH` with two digits in lower case.
-    #[error("bad escape")]
+    #[error("escape")]
     Escape,
     /// A path that is none, or a text without a byte or with more than 65,536.
-    #[error("no path, or a text outside its limits")]
+    #[error("path")]
     Path,
     /// A word that should be a number from 0 to 2^64 - 1 in decimal digits, and isn't.
-    #[error("no number")]
+    #[error("number")]
     Number,
     /// A request that may not stand at this place of a script.
-    #[error("out of order")]
+    #[error("order")]
     Order,
 }
 

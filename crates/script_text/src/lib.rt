@@ -5,6 +5,7 @@
 #![tactic(auto)]
 
 mod fault;
+mod laws;
 mod line;
 mod number;
 mod parts;
@@ -16,4 +17,5 @@ mod tests;
 mod text;
 
 pub use fault::{ScriptFault, ScriptKind};
+pub use laws::script_law;
 pub use script::{Line, Request, Script, parse};

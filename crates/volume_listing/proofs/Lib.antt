@@ -1,3 +1,6 @@
 pub mod Texts
+pub mod Sinks
 pub mod Places
 pub mod Ways
+pub mod Shown
+pub mod Volumes

@@ -12,7 +12,7 @@ use Rattle.flat_model.specs.declared.view.NameAt.{NameAt}
 use Rattle.flat_model.specs.Names.{FlatName, entries_of, stands_in}
 use Rattle.flat_model.specs.Volume.{Subvolume}
 use Rattle.flat_sub.specs.View.{name_view, names_view}
-use Rattle.volume_listing.specs.Listing.{Listed, below, in_byte_order}
+use Rattle.volume_listing.specs.Listing.{Listed, below, in_byte_order, listed}
 use Rattle.volume_listing.specs.Found.{below_name}
 use Rattle.volume_listing.specs.Order.{ordered}
 use Rattle.volume_listing.proofs.Places.{no_entries}
@@ -105,3 +105,9 @@ below_some depth sub dir path ats nears some same names =
     ∙ sym (flat_map_map (below_name (depth - 1) sub path) pair (in_byte_order (entries_of sub.names dir)))
     ∙ ap (λ (ns : List FlatName). flat_map (below_name (depth - 1) sub path) (map pair (in_byte_order (entries_of ns dir)))) names
     ∙ ap (flat_map (below_name (depth - 1) sub path)) (sym (ordered_is dir ats nears same))
+
+-- the root directory, and what is below it
+pub listed_from : (sub : Subvolume) (depth : ℕ) (root path : List (List ℕ)) (none one all : List Listed) → none ≡ [] → path ≡ [] → root ≡ [] → depth ≡ length sub.names → one ≡ none ++ record { path = path; ino = 256 } ∷ [] → all ≡ one ++ below depth sub 256 root → all ≡ listed sub
+unfolding listed
+listed_from sub depth root path none one all none_is path_is root_is depth_is one_is all_is =
+    all_is ∙ ap (λ (l : List Listed). l ++ below depth sub 256 root) one_is ∙ (λ i. (none_is i ++ record { path = path_is i; ino = 256 } ∷ []) ++ below (depth_is i) sub 256 (root_is i))

@@ -1,3 +1,4 @@
 pub mod Listing
 pub mod Order
 pub mod Found
+pub mod Parts

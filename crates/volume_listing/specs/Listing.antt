@@ -1,6 +1,6 @@
 -- The listing of a volume: for each subvolume a line for each name that leads from its root directory to an inode, and
 -- a line for each attribute.
-use Rattle.std.specs.Prelude.{ℕ, zero, suc, ◌+◌, ◌*◌, ◌/◌, ◌%◌, ◌^◌, Bool, false, cond, ◌&&◌, not, List, [], ◌∷◌, ◌++◌, map, filter, length, codes, Some, None, is_some, sum_by, nat_eq, nat_le}
+use Rattle.std.specs.Prelude.{ℕ, zero, suc, ◌+◌, ◌*◌, ◌/◌, ◌%◌, ◌^◌, Bool, false, cond, ◌&&◌, not, List, [], ◌∷◌, ◌++◌, map, length, codes, Some, None, is_some, sum_by, count_by, nat_eq, nat_le}
 use Rattle.std.specs.List.{flat_map}
 use Rattle.std.specs.Fmt.{decimal, digit_glyph}
 use Rattle.std.specs.Ordering.{nat_cmp}
@@ -125,12 +125,16 @@ is_there sub listed = is_some (get sub.inodes listed.ino)
 
 -- how many lines of a subvolume are those of inodes (own)
 unfoldable pub count_of : Subvolume → ℕ
-count_of sub = length (filter (is_there sub) (listed sub))
+count_of sub = count_by (is_there sub) (listed sub)
 
 -- the lines of a subvolume behind the line of its number ("ROOT_ITEM")
 unfoldable pub part_of : ℕ × Subvolume → List ℕ
 part_of entry = codes "sub " ++ decimal entry.0 ++ codes "\n" ++ lines_of entry.1
 
--- the listing of a volume: its subvolumes in the order of their numbers, and at last how many lines are those of inodes (own)
+-- the last line: how many lines are those of inodes (own)
+unfoldable pub done_line : ℕ → List ℕ
+done_line lines = codes "done " ++ decimal lines ++ codes "\n"
+
+-- the listing of a volume: its subvolumes in the order of their numbers, and the last line (own)
 unfoldable pub listing_of : Volume → List ℕ
-listing_of volume = flat_map part_of (entries volume) ++ codes "done " ++ decimal (sum_by (λ entry. count_of entry.1) (entries volume)) ++ codes "\n"
+listing_of volume = flat_map part_of (entries volume) ++ done_line (sum_by (λ entry. count_of entry.1) (entries volume))

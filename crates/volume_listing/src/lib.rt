@@ -4,7 +4,14 @@
 //! `specs/Listing.antt` has the text, byte for byte.
 #![tactic(auto)]
 
+mod lines;
+mod listing;
 mod order;
+mod sink;
+#[cfg(test)]
+mod tests;
 mod text;
 mod walk;
+
+pub use listing::{ListFault, write_listing};
 

@@ -8,4 +8,4 @@ abbrev pub decreases-add_below : goal.decreases-add_below
 decreases-add_below l = l.depth
 
 abbrev pub invariant-loop-entry : goal.invariant-loop-entry
-invariant-loop-entry l = l.found.items ≡ l.initial.found.items ++ flat_map (below_name (l.depth - 1) (sub_view l.sub).sub l.path.items) (take l.entry-index l.entries.items)
+invariant-loop-entry l = l.found.items ≡ l.initial.found.items ++ flat_map (below_name (l.depth - 1) (sub_view l.sub).sub l.path.items) (take l.entry-index l.entry-items)

@@ -1,0 +1,59 @@
+-- What a sink has taken, piece behind piece.
+use Rattle.std.proofs.Common.{◌+◌, ◌++◌, ℕ, List, length, take, drop, Option, Some, None, Result, Ok, Err, OnErr, length-append, take_all, append_assoc, sym, ◌∙◌, ap, subst, arith}
+use Rattle.std.proofs.lemmas.List.{take-append-drop, take-append-le}
+use Rattle.std.proofs.Math.Seq.{take-append-add, take-add}
+use Rattle.io_edge.specs.Edge.{Takes, TakesFront}
+
+pub Takes-joins : (old mid new : Option (List ℕ)) (xs ys : List ℕ) → Takes old xs mid → Takes mid ys new → Takes old (xs ++ ys) new
+Takes-joins None None None xs ys first second = tt
+Takes-joins None None (Some new) xs ys first second = second
+Takes-joins None (Some mid) new xs ys first second = absurd first
+Takes-joins (Some old) None new xs ys first second = absurd first
+Takes-joins (Some old) (Some mid) None xs ys first second = second
+Takes-joins (Some old) (Some mid) (Some new) xs ys first second = second ∙ ap (λ (taken : List ℕ). taken ++ ys) first ∙ append_assoc old xs ys
+
+pub TakesFront-behind : (old mid new : Option (List ℕ)) (xs ys : List ℕ) → Takes old xs mid → TakesFront mid ys new → TakesFront old (xs ++ ys) new
+TakesFront-behind None None None xs ys first second = tt
+TakesFront-behind None None (Some new) xs ys first second = second
+TakesFront-behind None (Some mid) new xs ys first second = absurd first
+TakesFront-behind (Some old) None new xs ys first second = absurd first
+TakesFront-behind (Some old) (Some mid) None xs ys first second = second
+TakesFront-behind (Some old) (Some mid) (Some new) xs ys first (n, within, is) = (
+  length xs + n,
+  omega (arith, within, length-append xs ys),
+  is ∙ ap (λ (taken : List ℕ). taken ++ take n ys) first ∙ append_assoc old xs (take n ys) ∙ ap (λ (taken : List ℕ). old ++ taken) (sym (take-append-add xs ys n)),
+)
+
+pub TakesFront-more : (old new : Option (List ℕ)) (xs ys : List ℕ) → TakesFront old xs new → TakesFront old (xs ++ ys) new
+TakesFront-more None None xs ys front = tt
+TakesFront-more None (Some new) xs ys front = front
+TakesFront-more (Some old) None xs ys front = front
+TakesFront-more (Some old) (Some new) xs ys (n, within, is) =
+    (n, omega (arith, within, length-append xs ys), is ∙ ap (λ (taken : List ℕ). old ++ taken) (sym (take-append-le n xs ys within)))
+
+-- all of the text is a front of it
+pub Takes-front : (old new : Option (List ℕ)) (xs : List ℕ) → Takes old xs new → TakesFront old xs new
+Takes-front None None xs takes = tt
+Takes-front None (Some new) xs takes = takes
+Takes-front (Some old) None xs takes = takes
+Takes-front (Some old) (Some new) xs takes = (length xs, omega arith, takes ∙ ap (λ (taken : List ℕ). old ++ taken) (sym (take_all (length xs) xs (omega arith))))
+
+-- one piece more of a text
+pub Takes-goes_on : (old mid new : Option (List ℕ)) (text : List ℕ) (taken more : ℕ) → Takes old (take taken text) mid → Takes mid (take more (drop taken text)) new → Takes old (take (taken + more) text) new
+Takes-goes_on old mid new text taken more first second =
+    subst (λ (bytes : List ℕ). Takes old bytes new) (sym (take-add taken more text)) (Takes-joins old mid new (take taken text) (take more (drop taken text)) first second)
+
+-- a front of what was left
+pub TakesFront-goes_on : (old mid new : Option (List ℕ)) (text : List ℕ) (taken : ℕ) → Takes old (take taken text) mid → TakesFront mid (drop taken text) new → TakesFront old text new
+TakesFront-goes_on old mid new text taken first second =
+    subst (λ (bytes : List ℕ). TakesFront old bytes new) (take-append-drop taken text) (TakesFront-behind old mid new (take taken text) (drop taken text) first second)
+
+-- what holds anyway holds at an error
+pub on_err : {T E : Type 0} (result : Result T E) (P : Type 0) → P → OnErr result P
+on_err (Ok value) P holds = tt
+on_err (Err error) P holds = holds
+
+-- what follows from what holds at an error holds at one
+pub on_err_weaker : {T E : Type 0} (result : Result T E) (P Q : Type 0) → (P → Q) → OnErr result P → OnErr result Q
+on_err_weaker (Ok value) P Q weaker holds = tt
+on_err_weaker (Err error) P Q weaker holds = weaker holds

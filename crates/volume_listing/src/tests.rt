@@ -1,0 +1,122 @@
+use crate::lines::put_lines;
+use crate::{ListFault, write_listing};
+use blk_base::{Ino, Name, SubId, Text, is_name};
+use flat_model::{Kind, NameAt};
+use flat_record::Inode;
+use flat_sub::FlatSub;
+use flat_volume::FlatVolume;
+use io_edge::MemorySink;
+use std::alloc::Global;
+use std::test::Fail;
+
+/// A name of these bytes.
+fn name(alloc: Global, bytes: &[u8]) -> Result<Name, Fail> {
+    if !is_name(bytes) {
+        return Err(Fail::from("no name"));
+    }
+    Ok(Name::new(alloc, bytes)?)
+}
+
+/// Gives an inode a name in a directory.
+fn put_name(
+    alloc: Global,
+    volume: &mut FlatVolume,
+    sub: u64,
+    dir: u64,
+    index: u64,
+    bytes: &[u8],
+    ino: u64,
+) -> Result<(), Fail> {
+    let at = NameAt {
+        dir: Ino(dir),
+        index,
+        name: name(alloc, bytes)?,
+        ino: Ino(ino),
+    };
+    if !volume.has_sub(SubId(sub)) {
+        return Err(Fail::from("no subvolume"));
+    }
+    volume.put_name(alloc, SubId(sub), at, true)?;
+    Ok(())
+}
+
+/// Adds an inode.
+fn put_inode(
+    alloc: Global,
+    volume: &mut FlatVolume,
+    sub: u64,
+    ino: u64,
+    kind: Kind,
+    size: u64,
+    target: &[u8],
+) -> Result<(), Fail> {
+    let target = Text::new(alloc, target)?;
+    if !volume.has_sub(SubId(sub)) {
+        return Err(Fail::from("no subvolume"));
+    }
+    volume.put_inode(alloc, SubId(sub), Ino(ino), kind, size, target)?;
+    Ok(())
+}
+
+#[test]
+fn a_bare_volume_has_its_root_directory(rt: HostRuntime) -> Result<(), Fail> {
+    let volume = FlatVolume::empty(rt.alloc(), 1)?;
+    let mut to = MemorySink::new(rt.alloc(), &[])?;
+    write_listing(rt.alloc(), &volume, &mut to)?;
+    assert_eq!(rt; to.bytes(), b"sub 5\n256 dir 1 0 - /\ndone 1\n".as_slice());
+    Ok(())
+}
+
+#[test]
+fn names_stand_in_the_order_of_their_bytes(rt: HostRuntime) -> Result<(), Fail> {
+    let alloc = rt.alloc();
+    let mut volume = FlatVolume::empty(alloc, 2)?;
+    put_inode(alloc, &mut volume, 5, 257, Kind::File, 0, b"")?;
+    put_inode(alloc, &mut volume, 5, 258, Kind::Dir, 0, b"")?;
+    put_inode(alloc, &mut volume, 5, 259, Kind::Link, 0, b"x\\y")?;
+    put_inode(alloc, &mut volume, 5, 260, Kind::File, 32, b"")?;
+    put_inode(alloc, &mut volume, 256, 257, Kind::File, 32, b"")?;
+    put_name(alloc, &mut volume, 5, 256, 2, b"b", 257)?;
+    put_name(alloc, &mut volume, 5, 256, 3, b"a d", 258)?;
+    put_name(alloc, &mut volume, 5, 256, 4, b"c", 257)?;
+    put_name(alloc, &mut volume, 5, 258, 2, b"\x7f", 260)?;
+    put_name(alloc, &mut volume, 5, 258, 3, b"l", 259)?;
+    put_name(alloc, &mut volume, 256, 256, 2, b"z", 257)?;
+    let mut to = MemorySink::new(alloc, &[])?;
+    write_listing(alloc, &volume, &mut to)?;
+    let want = b"sub 5\n256 dir 1 10 - /\n258 dir 1 4 - /a\\x20d\n259 link 1 3 - /a\\x20d/l x\\x5cy\n260 file 1 32 8a9136aa /a\\x20d/\\x7f\n257 file 2 0 00000000 /b\n257 file 2 0 00000000 /c\nsub 256\n256 dir 1 2 - /\n257 file 1 32 8a9136aa /z\ndone 8\n";
+    assert_eq!(rt; to.bytes(), want.as_slice());
+    Ok(())
+}
+
+#[test]
+fn a_file_shows_its_bytes_and_attributes(rt: HostRuntime) -> Result<(), Fail> {
+    let alloc = rt.alloc();
+    let mut inode = Inode::new(alloc, Kind::File, 0, Text::repeat(0, 0));
+    inode.write(alloc, 0, &Text::new(alloc, b"123456789")?)?;
+    inode.set_attribute(alloc, &name(alloc, b"user.k")?, &Text::new(alloc, b"v")?)?;
+    inode.set_attribute(alloc, &name(alloc, b"user.a b")?, &Text::new(alloc, b"\0")?)?;
+    let mut sub = FlatSub::bare(alloc)?;
+    sub.add_inode(257, inode)?;
+    let at = NameAt {
+        dir: Ino(256),
+        index: 2,
+        name: name(alloc, b"a")?,
+        ino: Ino(257),
+    };
+    sub.add_name(at, true)?;
+    let mut text = Vec::new(alloc);
+    assert_eq!(rt; put_lines(alloc, &mut text, &sub)?, 2);
+    let want = b"256 dir 1 2 - /\n257 file 1 9 e3069283 /a\n attr user.a\\x20b \\x00\n attr user.k v\n";
+    assert_eq!(rt; text.as_slice(), want.as_slice());
+    Ok(())
+}
+
+#[test]
+fn a_sink_that_fails_ends_it(rt: HostRuntime) -> Result<(), Fail> {
+    let volume = FlatVolume::empty(rt.alloc(), 1)?;
+    let mut to = MemorySink::new(rt.alloc(), &[1])?;
+    assert_eq!(rt; write_listing(rt.alloc(), &volume, &mut to), Err(ListFault::Sink));
+    assert_eq!(rt; to.bytes().len(), 0);
+    Ok(())
+}
