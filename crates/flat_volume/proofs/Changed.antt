@@ -38,7 +38,7 @@ run_of es names marks = record { sub = record { inodes = from_entries es; names 
 
 -- another record in place of one
 pub inode_set : (es : List (ℕ × InodeRecord)) (names : List FlatName) (marks : SubMarks) (i key : ℕ) (lent : ℕ × InodeRecord) (inode : InodeRecord) (change : InodeRecord → InodeRecord)
-  → position (λ (e : ℕ × InodeRecord). e.0 == key) es ≡ Some i → lent ≡ get_or es i lent → inode ≡ change lent.1 → run_of (set es i (lent.0, inode)) names marks ≡ at_inode key change (run_of es names marks)
+    → position (λ (e : ℕ × InodeRecord). e.0 == key) es ≡ Some i → lent ≡ get_or es i lent → inode ≡ change lent.1 → run_of (set es i (lent.0, inode)) names marks ≡ at_inode key change (run_of es names marks)
 inode_set es names marks i key lent inode change at is changed =
     let key_is : lent.0 ≡ key = ap (λ (e : ℕ × InodeRecord). e.0) is ∙ key_at key es i lent (position_first _ es i at) in
     let run : RunSub = run_of es names marks in
@@ -49,7 +49,7 @@ inode_set es names marks i key lent inode change at is changed =
 
 -- the same record in place of one
 pub inode_same : (es : List (ℕ × InodeRecord)) (names : List FlatName) (marks : SubMarks) (i key : ℕ) (lent : ℕ × InodeRecord) (inode : InodeRecord)
-  → position (λ (e : ℕ × InodeRecord). e.0 == key) es ≡ Some i → lent ≡ get_or es i lent → inode ≡ lent.1 → run_of (set es i (lent.0, inode)) names marks ≡ run_of es names marks
+    → position (λ (e : ℕ × InodeRecord). e.0 == key) es ≡ Some i → lent ≡ get_or es i lent → inode ≡ lent.1 → run_of (set es i (lent.0, inode)) names marks ≡ run_of es names marks
 inode_same es names marks i key lent inode at is same =
     let run : RunSub = run_of es names marks in
     inode_set es names marks i key lent inode (λ here. here) at is same
@@ -65,8 +65,8 @@ record_nowhere run id ino nowhere = ap (λ o. elim o [ None ↦ None | Some s �
 
 -- an operation was carried out in the subvolume of its places
 pub applied_at : (subs : List (ℕ × FlatSub)) (at : ℕ) (op : Op) (id : SubId) (lent : ℕ × FlatSub) (new : FlatSub) (answer : Answer)
-  → id ≡ (place_of op).sub → is_within_sub op ≡ true → position (λ (e : ℕ × FlatSub). e.0 == id.0) subs ≡ Some at → lent ≡ get_or subs at lent → AreWellKept subs
-  → ComesTo (operated (sub_view lent.1) op (lent.1.last_index + 1) (lent.1.last_index + 2)) (sub_view new) answer → IsApplied (volume_view subs) (volume_view (set subs at (lent.0, new))) op answer
+    → id ≡ (place_of op).sub → is_within_sub op ≡ true → position (λ (e : ℕ × FlatSub). e.0 == id.0) subs ≡ Some at → lent ≡ get_or subs at lent → AreWellKept subs
+    → ComesTo (operated (sub_view lent.1) op (lent.1.last_index + 1) (lent.1.last_index + 2)) (sub_view new) answer → IsApplied (volume_view subs) (volume_view (set subs at (lent.0, new))) op answer
 applied_at subs at op id lent new answer id_is within place is kept comes =
     let run : RunVolume = volume_view subs in
     let key_is : id.0 ≡ (place_of op).sub.0 = ap (λ (s : SubId). s.0) id_is in

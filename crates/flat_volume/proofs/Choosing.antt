@@ -178,7 +178,7 @@ module _ (run : RunSub) (covered : IsCovered run.marks) where
 
 -- what is at a place in a volume, as one that is there is changed
 pub applied_within : (run : RunVolume) (sub : RunSub) (op : Op) → get run (place_of op).sub.0 ≡ Some sub → is_within_sub op ≡ true → IsCovered sub.marks → (new : RunVolume) (after : RunSub) (answer : Answer)
-  → new ≡ insert run (place_of op).sub.0 after → after ≡ (operated sub op (sub.marks.last_index + 1) (sub.marks.last_index + 2)).next → answer ≡ (operated sub op (sub.marks.last_index + 1) (sub.marks.last_index + 2)).answer → IsApplied run new op answer
+    → new ≡ insert run (place_of op).sub.0 after → after ≡ (operated sub op (sub.marks.last_index + 1) (sub.marks.last_index + 2)).next → answer ≡ (operated sub op (sub.marks.last_index + 1) (sub.marks.last_index + 2)).answer → IsApplied run new op answer
 applied_within run sub op there within covered new after answer new_is after_is answer_is =
     let last = sub.marks.last_index in
     let outcome : Outcome = operated sub op (last + 1) (last + 2) in
@@ -188,7 +188,7 @@ applied_within run sub op there within covered new after answer new_is after_is 
     record {
       indexes = indexes_above last;
       next_indexes = subst (λ (o : VolumeOutcome). AreNextIndexes (marks_in run (place_of op).sub.0) o.made) (sym comes)
-      (subst (λ marks. AreNextIndexes marks outcome.made) (sym (ap (λ o. elim o [ None ↦ bare_marks | Some s ↦ s.marks ]) there)) (operated_may sub covered op));
+          (subst (λ marks. AreNextIndexes marks outcome.made) (sym (ap (λ o. elim o [ None ↦ bare_marks | Some s ↦ s.marks ]) there)) (operated_may sub covered op));
       next = new_is ∙ ap (insert run (place_of op).sub.0) after_is ∙ sym (ap (λ (o : VolumeOutcome). o.next) comes);
       said = answer_is ∙ sym (ap (λ (o : VolumeOutcome). o.answer) comes);
     }

@@ -24,7 +24,7 @@ module _ (p : FlatName → Bool) (q : NameAt → Bool) (same : (at : NameAt) (ne
       ∙ ap (λ b. cond b (at ∷ filter q ats) (filter q ats)) (same at near)
 
   find_step : (at : NameAt) (near : Bool) (here : Option FlatName) (found : Option NameAt) → option_map (λ (ino : Ino). ino.0) (option_map (λ (at : NameAt). at.ino) found) ≡ option_map (λ (name : FlatName). name.ino) here
-    → (b : Bool) → option_map (λ (ino : Ino). ino.0) (option_map (λ (at : NameAt). at.ino) (cond b (Some at) found)) ≡ option_map (λ (name : FlatName). name.ino) (cond b (Some (name_view at near)) here)
+      → (b : Bool) → option_map (λ (ino : Ino). ino.0) (option_map (λ (at : NameAt). at.ino) (cond b (Some at) found)) ≡ option_map (λ (name : FlatName). name.ino) (cond b (Some (name_view at near)) here)
   find_step at near here found rest true = refl
   find_step at near here found rest false = rest
 

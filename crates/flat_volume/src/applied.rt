@@ -320,6 +320,7 @@ fn operations_answer_as_worked_out(rt: HostRuntime) -> Result<(), Fail> {
             assert!(rt; is_in_limits(&op), "at {line}");
             let answer = volume.apply(alloc, &op)?;
             assert!(rt; is_said(alloc, &answer, want)?, "at {line}");
+            assert!(rt; volume.coherent(), "after {line}");
         }
     }
     Ok(())

@@ -78,13 +78,8 @@ pub(crate) fn is_within_sub(op: &Op) -> bool
     }
 }
 
-
 /// Carries out an operation within a subvolume; its new names get the next two indexes.
-pub(crate) fn operate(
-    sub: &mut FlatSub,
-    alloc: Global,
-    op: &Op,
-) -> Result<Answer, OutOfMemory>
+pub(crate) fn operate(sub: &mut FlatSub, alloc: Global, op: &Op) -> Result<Answer, OutOfMemory>
     requires kept { IsWellKept sub.old }
     requires limits { IsInLimits op.now }
     ensures done { IfOk result (ComesTo (operated (sub_view sub.old) op.now (sub.old.last_index + 1) (sub.old.last_index + 2)) (sub_view sub.new)) }

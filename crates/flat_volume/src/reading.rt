@@ -2,11 +2,14 @@
 ghost use Rattle.std.specs.Prelude.{◌≡◌, ◌↔◌, IsTrue, IsSome, IfOk, IfSome, option_map};
 ghost use Rattle.std.specs.FinMap.{get, len};
 ghost use Rattle.flat_model.specs.Records.{kind_of};
+ghost use Rattle.flat_model.specs.Volume.{volume_of};
+ghost use Rattle.flat_model.specs.Coherent.{IsCoherentVolume};
 ghost use Rattle.flat_sub.specs.View.{sub_view, IsWellKept};
 ghost use Rattle.flat_volume.specs.Building.{record_in, inos_of, HaveSameRecord};
 
 use crate::{FlatView, FlatVolume};
 use blk_base::{Ino, OutOfMemory, SubId};
+use flat_check::is_coherent;
 use flat_model::Kind;
 use flat_record::{Inode, place_of};
 use flat_sub::FlatSub;
@@ -94,5 +97,17 @@ impl FlatVolume {
             (Some(_), None) | (None, Some(_)) => false,
             (None, None) => false,
         }
+    }
+
+    /// Whether each subvolume is coherent. Takes no memory.
+    pub fn coherent(&self) -> bool
+        ensures { IsTrue result ↔ IsCoherentVolume (volume_of self.now) }
+    {
+        for entry in &self.subs {
+            if !is_coherent(&entry.1) {
+                return false;
+            }
+        }
+        true
     }
 }

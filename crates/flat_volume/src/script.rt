@@ -127,11 +127,7 @@ fn content_operation(
         b"write" => Ok(Op::Write(place, number(second)?, text_of(alloc, third)?)),
         b"truncate" => Ok(Op::Truncate(place, number(second)?)),
         b"read" => Ok(Op::Read(place, number(second)?, number(third)?)),
-        b"setattr" => Ok(Op::SetAttr(
-            place,
-            name_of(alloc, second)?,
-            text_of(alloc, third)?,
-        )),
+        b"setattr" => Ok(Op::SetAttr(place, name_of(alloc, second)?, text_of(alloc, third)?)),
         b"delattr" => Ok(Op::DelAttr(place, name_of(alloc, second)?)),
         b"getattr" => Ok(Op::GetAttr(place, name_of(alloc, second)?)),
         _ => Err(Fail::from("no operation")),

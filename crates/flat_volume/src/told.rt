@@ -13,12 +13,7 @@ const FIRST: SubId = SubId(5);
 const SECOND: SubId = SubId(256);
 
 /// Whether an operation on a volume gives the answer of these words.
-fn gives(
-    alloc: Global,
-    volume: &mut FlatVolume,
-    words: &str,
-    want: &str,
-) -> Result<bool, Fail> {
+fn gives(alloc: Global, volume: &mut FlatVolume, words: &str, want: &str) -> Result<bool, Fail> {
     let op = operation(alloc, words)?;
     if !crate::is_in_limits(&op) {
         return Err(Fail::from("past its limits"));
@@ -72,7 +67,9 @@ fn two_volumes_are_told_apart(rt: HostRuntime) -> Result<(), Fail> {
     assert!(rt; one.kind_of(SECOND, Ino(257)) == Some(Kind::File));
     one.put_block(alloc, SECOND, Ino(257), 3, &[7; 4096])?;
     assert!(rt; !one.same_record(&two, SECOND, Ino(257)));
+    assert!(rt; !one.coherent());
     assert!(rt; gives(alloc, &mut one, "truncate 256:/a 16384", "ok")?);
+    assert!(rt; one.coherent());
     assert!(rt; gives(alloc, &mut one, "read 256:/a 12287 3", "ok *1:0+*2:7")?);
     assert!(rt; one.kind_of(SECOND, Ino(256)) == Some(Kind::Dir));
     let (name, value) = (name_of(alloc, "user.k")?, Text::new(alloc, b"v")?);
@@ -101,5 +98,28 @@ fn a_subvolume_is_seen(rt: HostRuntime) -> Result<(), Fail> {
     assert!(rt; !view.has(Ino(259)));
     assert!(rt; view.is_dir(Ino(257)));
     assert!(rt; !view.is_dir(Ino(258)));
+    Ok(())
+}
+
+#[test]
+fn coherence_is_told(rt: HostRuntime) -> Result<(), Fail> {
+    let alloc = rt.alloc();
+    let (dir, file) = ((257, Kind::Dir), (257, Kind::File));
+    let sound = built(alloc, &[dir], &[(256, 2, "d", 257)])?;
+    assert!(rt; sound.coherent());
+    let leads_nowhere = built(alloc, &[], &[(256, 2, "a", 257)])?;
+    assert!(rt; !leads_nowhere.coherent());
+    let twice_named = built(alloc, &[dir], &[(256, 2, "d", 257), (256, 3, "e", 257)])?;
+    assert!(rt; !twice_named.coherent());
+    let nameless = built(alloc, &[file], &[])?;
+    assert!(rt; !nameless.coherent());
+    let ring = built(
+        alloc,
+        &[dir, (258, Kind::Dir)],
+        &[(257, 2, "x", 258), (258, 2, "y", 257)],
+    )?;
+    assert!(rt; !ring.coherent());
+    let early = built(alloc, &[file], &[(256, 1, "a", 257)])?;
+    assert!(rt; !early.coherent());
     Ok(())
 }
