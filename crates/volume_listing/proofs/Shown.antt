@@ -1,11 +1,10 @@
 -- What a line shows of an inode, by its kind.
-use Rattle.std.proofs.Common.{◌≡◌, ◌≢◌, ℕ, zero, suc, ◌<◌, ◌+◌, ◌*◌, Bool, true, false, cond, List, [], ◌∷◌, ◌++◌, length, Option, Some, None, is_some, refl, sym, ap, ◌∙◌, codes, arith}
+use Rattle.std.proofs.Common.{◌≡◌, ◌≢◌, ℕ, ◌+◌, ◌*◌, Bool, true, false, cond, List, [], ◌∷◌, ◌++◌, length, Some, None, refl, sym, ap, ◌∙◌, codes, arith}
 use Rattle.std.specs.Bool.{nat_eq}
 use Rattle.std.specs.List.{flat_map, filter, sum_by}
 use Rattle.std.specs.FinMap.{get}
 use Rattle.std.proofs.lemmas.List.Sums.{sum_by-cons}
 use Rattle.blk_base.specs.Crc.{crc32c_of}
-use Rattle.flat_model.specs.declared.view.Kind.{Kind}
 use Rattle.flat_model.specs.declared.view.Kind.TheVariants.{File, Dir, Link}
 use Rattle.flat_model.specs.declared.view.NameAt.{NameAt}
 use Rattle.flat_model.specs.Records.{InodeRecord, FileInode, DirInode, LinkInode, kind_of, attributes_of}
@@ -14,7 +13,7 @@ use Rattle.flat_model.specs.Contents.{bytes_read}
 use Rattle.flat_model.specs.Operations.{file_there}
 use Rattle.flat_model.specs.Volume.{Subvolume}
 use Rattle.flat_sub.specs.View.{name_view, names_view}
-use Rattle.volume_listing.specs.Listing.{Listed, links_shown, size_shown, sum_shown, hex8, step_shown, path_shown, target_shown, printed, line_of, attribute_lines, lines_at, is_there}
+use Rattle.volume_listing.specs.Listing.{Listed, links_shown, size_shown, sum_shown, hex8, step_shown, path_shown, target_shown, printed, line_of, attribute_lines, lines_at}
 use Rattle.flat_record.specs.Reading.{target_of}
 use Rattle.flat_model.proofs.Maps.{some_same}
 use Rattle.std.specs.Option.{unwrap_or}

@@ -1,15 +1,14 @@
 -- What is below a directory, name by name.
-use Rattle.std.proofs.Common.{◌≡◌, ◌≢◌, ℕ, zero, suc, ◌+◌, ◌-◌, Bool, true, false, cond, List, [], ◌∷◌, ◌++◌, map, length, refl, sym, ap, ◌∙◌, arith}
-use Rattle.std.specs.declared.cmp.Ordering.{Ordering}
+use Rattle.std.proofs.Common.{◌≡◌, ◌≢◌, ℕ, suc, ◌-◌, Bool, true, false, cond, List, [], ◌∷◌, ◌++◌, map, length, refl, sym, ap, ◌∙◌, arith}
 use Rattle.std.specs.declared.cmp.Ordering.TheVariants.{Less, Equal, Greater}
 use Rattle.std.specs.Ordering.{nat_cmp}
 use Rattle.std.specs.Bool.{nat_eq}
 use Rattle.std.specs.Cmp.Lexicographic.{slice_cmp, nat_list_cmp_total}
 use Rattle.std.specs.List.{flat_map, filter}
-use Rattle.std.specs.FinMap.{entries, from_entries, entries-insert, empty, slice_cmp-IsAntisymmetric, nat_cmp-IsAntisymmetric}
+use Rattle.std.specs.FinMap.{entries, from_entries, entries-insert, slice_cmp-IsAntisymmetric, nat_cmp-IsAntisymmetric}
 use Rattle.std.specs.FinMap.Entries.{put, by_order}
 use Rattle.flat_model.specs.declared.view.NameAt.{NameAt}
-use Rattle.flat_model.specs.Names.{FlatName, entries_of, stands_in}
+use Rattle.flat_model.specs.Names.{FlatName, entries_of}
 use Rattle.flat_model.specs.Volume.{Subvolume}
 use Rattle.flat_sub.specs.View.{name_view, names_view}
 use Rattle.volume_listing.specs.Listing.{Listed, below, in_byte_order, listed}

@@ -1,6 +1,6 @@
 -- The listing of a volume: for each subvolume a line for each name that leads from its root directory to an inode, and
 -- a line for each attribute.
-use Rattle.std.specs.Prelude.{ℕ, zero, suc, ◌+◌, ◌*◌, ◌/◌, ◌%◌, ◌^◌, Bool, false, cond, ◌&&◌, not, List, [], ◌∷◌, ◌++◌, map, length, codes, Some, None, is_some, sum_by, count_by, nat_eq, nat_le}
+use Rattle.std.specs.Prelude.{ℕ, zero, suc, ◌*◌, ◌/◌, ◌%◌, Bool, false, cond, ◌&&◌, not, List, [], ◌∷◌, ◌++◌, map, length, codes, Some, None, is_some, sum_by, count_by, nat_eq, nat_le}
 use Rattle.std.specs.List.{flat_map}
 use Rattle.std.specs.Fmt.{decimal, digit_glyph}
 use Rattle.std.specs.Ordering.{nat_cmp}

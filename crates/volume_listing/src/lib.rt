@@ -14,4 +14,3 @@ mod text;
 mod walk;
 
 pub use listing::{ListFault, write_listing};
-

@@ -190,7 +190,12 @@ fn put_line(
 }
 
 /// Adds the line of an attribute.
-fn put_attribute(alloc: Global, text: &mut Vec<u8>, name: &Name, value: &Text) -> Result<(), OutOfMemory>
+fn put_attribute(
+    alloc: Global,
+    text: &mut Vec<u8>,
+    name: &Name,
+    value: &Text,
+) -> Result<(), OutOfMemory>
     ensures { OnOk result (text.new.items ≡ text.old.items ++ attribute_line (name.now, value.now)) }
 {
     text.extend_from_slice(b" attr ")?;
@@ -213,7 +218,12 @@ fn put_attributes(alloc: Global, text: &mut Vec<u8>, inode: &Inode) -> Result<()
 }
 
 /// Adds the lines of what stands at the end of these names, and tells whether an inode does.
-fn put_found(alloc: Global, text: &mut Vec<u8>, sub: &FlatSub, found: &Found) -> Result<bool, OutOfMemory>
+fn put_found(
+    alloc: Global,
+    text: &mut Vec<u8>,
+    sub: &FlatSub,
+    found: &Found,
+) -> Result<bool, OutOfMemory>
     requires { IsWellKept sub.now }
     ensures text { OnOk result (text.new.items ≡ text.old.items ++ lines_at (sub_view sub.now).sub found.now) }
     ensures there { IfOk result (λ there. there ≡ is_there (sub_view sub.now).sub found.now) }
@@ -229,7 +239,11 @@ fn put_found(alloc: Global, text: &mut Vec<u8>, sub: &FlatSub, found: &Found) ->
 }
 
 /// Adds the lines of a subvolume, and tells how many of them are those of inodes.
-pub(crate) fn put_lines(alloc: Global, text: &mut Vec<u8>, sub: &FlatSub) -> Result<usize, OutOfMemory>
+pub(crate) fn put_lines(
+    alloc: Global,
+    text: &mut Vec<u8>,
+    sub: &FlatSub,
+) -> Result<usize, OutOfMemory>
     requires { IsWellKept sub.now }
     ensures text { OnOk result (text.new.items ≡ text.old.items ++ lines_of (sub_view sub.now).sub) }
     ensures count { IfOk result (λ count. count ≡ count_of (sub_view sub.now).sub) }

@@ -42,7 +42,11 @@ fn put_part(alloc: Global, text: &mut Vec<u8>, id: u64, sub: &FlatSub) -> Result
 }
 
 /// Adds the lines of all subvolumes, and tells how many of them are those of inodes.
-fn put_parts(alloc: Global, text: &mut Vec<u8>, subs: &Vec<(u64, FlatSub)>) -> Result<u128, OutOfMemory>
+fn put_parts(
+    alloc: Global,
+    text: &mut Vec<u8>,
+    subs: &Vec<(u64, FlatSub)>,
+) -> Result<u128, OutOfMemory>
     requires { All (λ entry. IsWellKept entry.1) subs.now.items }
     ensures text { OnOk result (text.new.items ≡ text.old.items ++ flat_map part_at subs.now.items) }
     ensures count { IfOk result (λ lines. lines ≡ sum_by count_at subs.now.items) }
@@ -81,7 +85,11 @@ fn listing(alloc: Global, volume: &FlatVolume) -> Result<Vec<u8>, OutOfMemory>
 /// 0x7e, and the backslash, are printed as `\x` and two digits (own).
 ///
 /// The text is made before the first byte is written, so that nothing is written where there is no memory for it.
-pub fn write_listing<K: Sink>(alloc: Global, volume: &FlatVolume, to: &mut K) -> Result<(), ListFault>
+pub fn write_listing<K: Sink>(
+    alloc: Global,
+    volume: &FlatVolume,
+    to: &mut K,
+) -> Result<(), ListFault>
     ensures ok { OnOk result (Takes (K.taken to.old) (listing_of (volume_of volume.now)) (K.taken to.new)) }
     ensures front { OnErr result (TakesFront (K.taken to.old) (listing_of (volume_of volume.now)) (K.taken to.new)) }
     ensures count { K.faults to.old ≤ K.faults to.new }

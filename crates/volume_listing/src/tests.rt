@@ -84,7 +84,8 @@ fn names_stand_in_the_order_of_their_bytes(rt: HostRuntime) -> Result<(), Fail> 
     put_name(alloc, &mut volume, 256, 256, 2, b"z", 257)?;
     let mut to = MemorySink::new(alloc, &[])?;
     write_listing(alloc, &volume, &mut to)?;
-    let want = b"sub 5\n256 dir 1 10 - /\n258 dir 1 4 - /a\\x20d\n259 link 1 3 - /a\\x20d/l x\\x5cy\n260 file 1 32 8a9136aa /a\\x20d/\\x7f\n257 file 2 0 00000000 /b\n257 file 2 0 00000000 /c\nsub 256\n256 dir 1 2 - /\n257 file 1 32 8a9136aa /z\ndone 8\n";
+    let want =
+        b"sub 5\n256 dir 1 10 - /\n258 dir 1 4 - /a\\x20d\n259 link 1 3 - /a\\x20d/l x\\x5cy\n260 file 1 32 8a9136aa /a\\x20d/\\x7f\n257 file 2 0 00000000 /b\n257 file 2 0 00000000 /c\nsub 256\n256 dir 1 2 - /\n257 file 1 32 8a9136aa /z\ndone 8\n";
     assert_eq!(rt; to.bytes(), want.as_slice());
     Ok(())
 }
@@ -107,7 +108,8 @@ fn a_file_shows_its_bytes_and_attributes(rt: HostRuntime) -> Result<(), Fail> {
     sub.add_name(at, true)?;
     let mut text = Vec::new(alloc);
     assert_eq!(rt; put_lines(alloc, &mut text, &sub)?, 2);
-    let want = b"256 dir 1 2 - /\n257 file 1 9 e3069283 /a\n attr user.a\\x20b \\x00\n attr user.k v\n";
+    let want =
+        b"256 dir 1 2 - /\n257 file 1 9 e3069283 /a\n attr user.a\\x20b \\x00\n attr user.k v\n";
     assert_eq!(rt; text.as_slice(), want.as_slice());
     Ok(())
 }
@@ -116,7 +118,10 @@ fn a_file_shows_its_bytes_and_attributes(rt: HostRuntime) -> Result<(), Fail> {
 fn a_sink_that_fails_ends_it(rt: HostRuntime) -> Result<(), Fail> {
     let volume = FlatVolume::empty(rt.alloc(), 1)?;
     let mut to = MemorySink::new(rt.alloc(), &[1])?;
-    assert_eq!(rt; write_listing(rt.alloc(), &volume, &mut to), Err(ListFault::Sink));
+    assert_eq!(rt;
+        write_listing(rt.alloc(), &volume, &mut to),
+        Err(ListFault::Sink)
+    );
     assert_eq!(rt; to.bytes().len(), 0);
     Ok(())
 }

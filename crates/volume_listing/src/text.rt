@@ -70,7 +70,11 @@ pub(crate) fn put_number(alloc: Global, text: &mut Vec<u8>, number: u128) -> Res
 }
 
 /// Adds a number in decimal, and a space.
-pub(crate) fn put_number_word(alloc: Global, text: &mut Vec<u8>, number: u128) -> Result<(), OutOfMemory>
+pub(crate) fn put_number_word(
+    alloc: Global,
+    text: &mut Vec<u8>,
+    number: u128,
+) -> Result<(), OutOfMemory>
     ensures { OnOk result (text.new.items ≡ text.old.items ++ word (decimal number)) }
 {
     put_number(alloc, text, number)?;

@@ -2,7 +2,6 @@ use Rattle.std.proofs.Common.{◌++◌, List, ℕ, sym, ap, ◌∙◌}
 use Rattle.std.specs.List.{flat_map}
 use Rattle.volume_listing.specs.Listing.{done_line}
 use Rattle.volume_listing.specs.Parts.{part_at}
-use Rattle.volume_listing.proofs.Texts.{joined}
 use Rattle.volume_listing.proofs.Volumes.{listing_from}
 use Rattle.volume_listing.proofs.listing.listing.Goals as goal
 

@@ -1,8 +1,7 @@
-use Rattle.std.proofs.Common.{◌≡◌, ℕ, List, ◌<◌, ◌≤◌, ◌-◌, ◌∷◌, suc, cond, drop, length, get_or, sym, ap, ◌∙◌, eq-eqb, arith}
+use Rattle.std.proofs.Common.{◌≡◌, ℕ, List, ◌<◌, ◌-◌, suc, cond, drop, length, sym, ap, ◌∙◌, eq-eqb, arith}
 use Rattle.std.specs.Ordering.{nat_cmp}
 use Rattle.std.specs.Cmp.Lexicographic.{slice_cmp}
 use Rattle.std.specs.FinMap.{put}
-use Rattle.flat_model.specs.declared.view.NameAt.{NameAt}
 use Rattle.volume_listing.specs.Order.{ordered}
 use Rattle.volume_listing.proofs.Places.{ordered_none, ordered_more, drop_at, drop_past}
 use Rattle.volume_listing.proofs.order.in_byte_order.Goals as goal
@@ -28,8 +27,8 @@ loop-left-preserved-in_ok-put c =
     record {
       within = omega arith;
       in_order = c.in_ok-put.ensures
-        ∙ ap (λ (name : List ℕ). put (slice_cmp nat_cmp) name at.ino.0 before) c.in_ok-copy.ensures
-        ∙ ap (put (slice_cmp nat_cmp) at.name at.ino.0) (c.loop-left.invariant.in_order ∙ ap (λ n. ordered dir (drop n names)) (sym same))
-        ∙ sym (ap (ordered dir) here ∙ ordered_more dir at (drop (suc (left - 1)) names)
+          ∙ ap (λ (name : List ℕ). put (slice_cmp nat_cmp) name at.ino.0 before) c.in_ok-copy.ensures
+          ∙ ap (put (slice_cmp nat_cmp) at.name at.ino.0) (c.loop-left.invariant.in_order ∙ ap (λ n. ordered dir (drop n names)) (sym same))
+          ∙ sym (ap (ordered dir) here ∙ ordered_more dir at (drop (suc (left - 1)) names)
           ∙ ap (λ b. cond b (put (slice_cmp nat_cmp) at.name at.ino.0 (ordered dir (drop (suc (left - 1)) names))) (ordered dir (drop (suc (left - 1)) names))) (eq-eqb at.dir.0 dir c.if-at-dir.true));
     }

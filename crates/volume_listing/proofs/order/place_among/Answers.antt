@@ -1,4 +1,4 @@
-use Rattle.std.proofs.Common.{◌≡◌, ◌∷◌, suc, ap, rules, add-one, drop}
+use Rattle.std.proofs.Common.{ap, rules, add-one, drop}
 use Rattle.volume_listing.proofs.Places.{sought_start, sought_end, sought_less, sought_equal, sought_more, drop_at, drop_past}
 use Rattle.volume_listing.proofs.order.place_among.Goals as goal
 

@@ -1,4 +1,4 @@
-use Rattle.std.proofs.Common.{◌≡◌, ℕ, List, set, get_or, sym, ap, ◌∙◌, true, false, arith}
+use Rattle.std.proofs.Common.{ℕ, List, set, get_or, sym, ap, ◌∙◌, arith}
 use Rattle.std.specs.List.{insert}
 use Rattle.volume_listing.proofs.Places.{put_absent, put_present, place_within, place_below}
 use Rattle.volume_listing.proofs.order.put.Goals as goal

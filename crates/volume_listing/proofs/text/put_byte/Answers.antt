@@ -1,4 +1,4 @@
-use Rattle.std.proofs.Common.{◌≡◌, ◌++◌, ◌∷◌, [], ◌∙◌, ap, sym, cond, codes, false, List, ℕ}
+use Rattle.std.proofs.Common.{◌≡◌, ◌++◌, ◌∷◌, [], ◌∙◌, ap, sym, cond, codes, false}
 use Rattle.volume_listing.specs.Listing.{hex_pair, is_plain, printed_byte}
 use Rattle.volume_listing.proofs.Texts.{on_ok, joined, plain, plain_low, plain_high, plain_backslash}
 use Rattle.volume_listing.proofs.text.put_byte.Goals as goal

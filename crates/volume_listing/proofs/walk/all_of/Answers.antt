@@ -1,4 +1,4 @@
-use Rattle.std.proofs.Common.{ℕ, arith}
+use Rattle.std.proofs.Common.{arith}
 use Rattle.flat_sub.specs.View.{sub_view}
 use Rattle.flat_sub.proofs.Placed.{length_view}
 use Rattle.volume_listing.proofs.Ways.{listed_from}
