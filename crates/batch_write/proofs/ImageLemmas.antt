@@ -6,7 +6,7 @@ use Rattle.std.specs.declared.boxed.Box.{Box}
 use Rattle.blk_base.specs.declared.key.Addr.{Addr}
 use Rattle.disk_model.specs.Disk.{Image, IfBoth, IfTold, Changes, SameBut}
 use Rattle.disk_model.specs.Laws.{slice_get-set_other, slice_get-set_same}
-use Rattle.batch_write.specs.Batch.{AtBlock, HasBlock, HasWritten, SameOutside, blocks_of, numbers_of}
+use Rattle.batch_write.specs.Batch.{AtBlock, HasBlock, HasWritten, NoSuper, SameOutside, blocks_of, numbers_of}
 
 -- two numbers are the same or not
 pub same_or_other : (a b : ℕ) → (a ≡ b) ⊎ (a ≢ b)
@@ -133,10 +133,6 @@ written_goes_on batch k item count (Some now) (Some new) once next inside size s
 -- all are
 pub written_all : (batch : List AtBlock) (k : ℕ) (seen : Option Image) → length batch ≤ k → IfTold seen (λ image. All (HasBlock image) (take k batch)) → IfTold seen (λ image. All (HasBlock image) batch)
 written_all batch k seen past so_far = subst (λ (items : List AtBlock). IfTold seen (λ image. All (HasBlock image) items)) (take_all k batch past) so_far
-
--- no block of the batch is the superblock
-abbrev pub NoSuper : List AtBlock → Type 0
-NoSuper batch = All (λ item. item.0.0 / 4096 ≢ 16) batch
 
 -- after all blocks of the batch, and then the superblock or its failed write
 pub HasWritten-super : (batch : List AtBlock) (old mid new : Image) → NoSuper batch → SameOutside (numbers_of batch) old mid → All (HasBlock mid) batch → SameBut 16 mid new → HasWritten batch old new

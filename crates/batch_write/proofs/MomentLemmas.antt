@@ -7,8 +7,8 @@ use Rattle.std.proofs.lemmas.Option.{slice_get-get_or}
 use Rattle.blk_base.specs.Bytes.{IsBlock}
 use Rattle.disk_model.specs.Disk.{Image, IsImage, Call, Held, Told, Moment, Leaves, EveryMoment, IfBoth, IfTold, Continues, after_call, during_call, after_calls, held_first, held_now, image_now, written, super_written}
 use Rattle.disk_model.specs.Laws.{held_now-goes_on, EveryMoment-one_call, EveryMoment-joins, EveryMoment-weaker, EveryMoment-same, leaves_after_flush, Leaves-after, slice_get-set_other, slice_get-set_same, Contains-cons_cases, Contains-single, Contains-none}
-use Rattle.batch_write.specs.Batch.{AtBlock, HasBatch, HasBlock, IsOldBut, IsOldOrNew, LeavesOnly, numbers_of}
-use Rattle.batch_write.proofs.ImageLemmas.{IsNext, NoSuper, number_among, same_or_other}
+use Rattle.batch_write.specs.Batch.{AtBlock, HasBatch, HasBlock, IsOldBut, IsOldOrNew, IsTried, LeavesOnly, NoSuper, numbers_of}
+use Rattle.batch_write.proofs.ImageLemmas.{IsNext, number_among, same_or_other}
 
 -- what holds at every moment holds at the last one
 pub moments_now : (P : Image → Type 0) (old new : Told) → EveryMoment old new P → LeavesOnly new P
@@ -220,35 +220,69 @@ super_done_at now new seen left count superblock false read found inside goes is
 
 -- ---- the superblock after the batch
 
--- an image from before the superblock, with the batch on it
-IsOldBut-later : (old mid : Told) (batch : List AtBlock) (image : Image) → EveryMoment old mid (IsOldBut old (numbers_of batch)) → IsOldBut mid [] image → IsOldBut old (numbers_of batch) image
-IsOldBut-later old mid batch image every it =
-    let before : IsOldBut old (numbers_of batch) it.base = moments_now (IsOldBut old (numbers_of batch)) old mid every it.base it.left in record {
-      base = before.base;
-      left = before.left;
-      blocks = it.blocks;
-      size = it.size ∙ before.size;
-      others = λ at outside. it.others at (Contains-none at) ∙ before.others at outside;
-    }
+-- The new superblock over an image with the whole batch.
+pub HasBatch-later : (old mid : Told) (batch : List AtBlock) (superblock : List ℕ) (image : Image) → NoSuper batch → LeavesOnly mid (IsTried old batch superblock) → HasBatch mid [] superblock image → HasBatch old batch superblock image
+HasBatch-later old mid batch superblock image none tried it = over before.0
+  where
+    before : IsTried old batch superblock it.base
+    before = tried it.base it.left
 
-HasBatch-later : (old mid : Told) (batch : List AtBlock) (superblock : List ℕ) (image : Image) → NoSuper batch → EveryMoment old mid (IsOldBut old (numbers_of batch)) → IsSettled batch (Some mid) → HasBatch mid [] superblock image → HasBatch old batch superblock image
-HasBatch-later old mid batch superblock image none every settled it =
-    let before : IsOldBut old (numbers_of batch) it.base = moments_now (IsOldBut old (numbers_of batch)) old mid every it.base it.left in record {
-      base = before.base;
-      left = before.left;
+    written : All (HasBlock image) batch
+    written = λ k d within. it.others ((slice_index_or batch k d).0.0 / 4096) (none k d within) (Contains-none _) ∙ before.1 k d within
+
+    over : IsOldOrNew old batch superblock it.base → HasBatch old batch superblock image
+    over (inl base) = record {
+      base = base.base;
+      left = base.left;
       blocks = it.blocks;
-      size = it.size ∙ before.size;
+      size = it.size ∙ base.size;
       super = it.super;
-      written = λ k d within. it.others ((slice_index_or batch k d).0.0 / 4096) (none k d within) (Contains-none _) ∙ settled it.base it.left k d within;
-      others = λ at other outside. it.others at other (Contains-none at) ∙ before.others at outside;
+      written = written;
+      others = λ at other outside. it.others at other (Contains-none at) ∙ base.others at outside;
+    }
+    over (inr base) = record {
+      base = base.base;
+      left = base.left;
+      blocks = it.blocks;
+      size = it.size ∙ base.size;
+      super = it.super;
+      written = written;
+      others = λ at other outside. it.others at other (Contains-none at) ∙ base.others at other outside;
     }
 
-either_later : (old mid : Told) (batch : List AtBlock) (superblock : List ℕ) → NoSuper batch → EveryMoment old mid (IsOldBut old (numbers_of batch)) → IsSettled batch (Some mid)
-    → (image : Image) → IsOldOrNew mid [] superblock image → IsOldOrNew old batch superblock image × All (HasBlock image) batch
-either_later old mid batch superblock none every settled image (inl it) =
-    (inl (IsOldBut-later old mid batch image every it), λ k d within. it.others ((slice_index_or batch k d).0.0 / 4096) (Contains-none _) ∙ settled it.base it.left k d within)
-either_later old mid batch superblock none every settled image (inr it) =
-    let new = HasBatch-later old mid batch superblock image none every settled it in (inr new, new.written)
+-- An image with the whole batch stays one, where no block is written but the superblock.
+pub IsTried-later : (old mid : Told) (batch : List AtBlock) (superblock : List ℕ) (image : Image) → NoSuper batch → LeavesOnly mid (IsTried old batch superblock) → IsOldOrNew mid [] superblock image → IsTried old batch superblock image
+IsTried-later old mid batch superblock image none tried (inr it) =
+    let new = HasBatch-later old mid batch superblock image none tried it in (inr new, new.written)
+IsTried-later old mid batch superblock image none tried (inl it) = (over before.0, written)
+  where
+    before : IsTried old batch superblock it.base
+    before = tried it.base it.left
+
+    written : All (HasBlock image) batch
+    written = λ k d within. it.others ((slice_index_or batch k d).0.0 / 4096) (Contains-none _) ∙ before.1 k d within
+
+    over : IsOldOrNew old batch superblock it.base → IsOldOrNew old batch superblock image
+    over (inl base) = inl (record {
+      base = base.base;
+      left = base.left;
+      blocks = it.blocks;
+      size = it.size ∙ base.size;
+      others = λ at outside. it.others at (Contains-none at) ∙ base.others at outside;
+    })
+    over (inr base) = inr (record {
+      base = base.base;
+      left = base.left;
+      blocks = it.blocks;
+      size = it.size ∙ base.size;
+      super = it.others 16 (Contains-none 16) ∙ base.super;
+      written = written;
+      others = λ at other outside. it.others at (Contains-none at) ∙ base.others at other outside;
+    })
+
+-- before the superblock, with the batch durable
+settled_is_tried : (old mid : Told) (batch : List AtBlock) (superblock : List ℕ) → EveryMoment old mid (IsOldBut old (numbers_of batch)) → IsSettled batch (Some mid) → LeavesOnly mid (IsTried old batch superblock)
+settled_is_tried old mid batch superblock every settled image leaves = (inl (moments_now (IsOldBut old (numbers_of batch)) old mid every image leaves), settled image leaves)
 
 -- the moments of the batch and of the superblock
 pub batch_moments : (batch : List AtBlock) (superblock : List ℕ) (before mid new : Option Told) → NoSuper batch → SoFar (λ old. IsOldBut old (numbers_of batch)) before mid → IsSettled batch mid → SoFar (λ old. IsOldOrNew old [] superblock) mid new
@@ -261,7 +295,7 @@ batch_moments batch superblock (Some old) (Some mid) None none so_far settled la
 batch_moments batch superblock (Some old) (Some mid) (Some new) none so_far settled last =
     let P : Image → Type 0 = IsOldOrNew old batch superblock in
     EveryMoment-joins P old mid new (EveryMoment-weaker (IsOldBut old (numbers_of batch)) P old mid (λ image it. inl it) so_far)
-    (EveryMoment-weaker (IsOldOrNew mid [] superblock) P mid new (λ image it. (either_later old mid batch superblock none so_far settled image it).0) last)
+    (EveryMoment-weaker (IsOldOrNew mid [] superblock) P mid new (λ image it. (IsTried-later old mid batch superblock image none (settled_is_tried old mid batch superblock so_far settled) it).0) last)
 
 -- only the batch's moments, where a call ended before the superblock
 pub batch_moments_before_super : (batch : List AtBlock) (superblock : List ℕ) (before mid : Option Told) → SoFar (λ old. IsOldBut old (numbers_of batch)) before mid → SoFar (λ old. IsOldOrNew old batch superblock) before mid
@@ -279,14 +313,14 @@ leaves_before_super numbers (Some old) (Some mid) so_far = moments_now (IsOldBut
 
 -- what it leaves where the superblock was tried
 pub leaves_tried : (batch : List AtBlock) (superblock : List ℕ) (before mid new : Option Told) → NoSuper batch → SoFar (λ old. IsOldBut old (numbers_of batch)) before mid → IsSettled batch mid → SoFar (λ old. IsOldOrNew old [] superblock) mid new
-    → IfBoth before new (λ old told. LeavesOnly told (λ image. IsOldOrNew old batch superblock image × All (HasBlock image) batch))
+    → IfBoth before new (λ old told. LeavesOnly told (IsTried old batch superblock))
 leaves_tried batch superblock None None None none so_far settled last = tt
 leaves_tried batch superblock None None (Some new) none so_far settled last = last
 leaves_tried batch superblock None (Some mid) new none so_far settled last = absurd so_far
 leaves_tried batch superblock (Some old) None new none so_far settled last = absurd so_far
 leaves_tried batch superblock (Some old) (Some mid) None none so_far settled last = last
 leaves_tried batch superblock (Some old) (Some mid) (Some new) none so_far settled last = λ image leaves.
-    either_later old mid batch superblock none so_far settled image (moments_now (IsOldOrNew mid [] superblock) mid new last image leaves)
+    IsTried-later old mid batch superblock image none (settled_is_tried old mid batch superblock so_far settled) (moments_now (IsOldOrNew mid [] superblock) mid new last image leaves)
 
 -- what it leaves after Ok
 pub leaves_done : (batch : List AtBlock) (superblock : List ℕ) (before mid new : Option Told) → NoSuper batch → SoFar (λ old. IsOldBut old (numbers_of batch)) before mid → IsSettled batch mid
@@ -297,4 +331,4 @@ leaves_done batch superblock None (Some mid) new none so_far settled last = absu
 leaves_done batch superblock (Some old) None new none so_far settled last = absurd so_far
 leaves_done batch superblock (Some old) (Some mid) None none so_far settled last = last
 leaves_done batch superblock (Some old) (Some mid) (Some new) none so_far settled last = λ image leaves.
-    HasBatch-later old mid batch superblock image none so_far settled (last image leaves)
+    HasBatch-later old mid batch superblock image none (settled_is_tried old mid batch superblock so_far settled) (last image leaves)

@@ -59,6 +59,14 @@ pub record HasBatch (old : Told) (batch : List AtBlock) (superblock : List ℕ) 
 abbrev pub IsOldOrNew : Told → List AtBlock → List ℕ → Image → Type 0
 IsOldOrNew old batch superblock image = IsOldBut old (numbers_of batch) image ⊎ HasBatch old batch superblock image
 
+-- one of the two, and the whole batch is on the image, whichever superblock it has
+abbrev pub IsTried : Told → List AtBlock → List ℕ → Image → Type 0
+IsTried old batch superblock image = IsOldOrNew old batch superblock image × All (HasBlock image) batch
+
+-- no block of the batch is the superblock
+abbrev pub NoSuper : List AtBlock → Type 0
+NoSuper batch = All (λ item. item.0.0 / 4096 ≢ 16) batch
+
 -- each image that a crash may leave now has P
 abbrev pub LeavesOnly : Told → (Image → Type 0) → Type 0
 LeavesOnly told P = (image : Image) → Leaves (held_now told) image → P image

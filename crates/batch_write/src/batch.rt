@@ -1,6 +1,6 @@
 ghost use Rattle.std.specs.Prelude.{◌≡◌, ◌≢◌, ◌<◌, ◌/◌, All, AllPairs, Some, OnOk, IsErrOf, slice_get, is_ok, true, false};
 ghost use Rattle.disk_model.specs.Disk.{Changes, Continues, EveryMoment, HasCause, IfBoth, IfTold, written};
-ghost use Rattle.batch_write.specs.Batch.{HasBatch, HasBlock, HasWritten, IsOldBut, IsOldOrNew, IsPlace, LeavesOnly, SameOutside, blocks_of, numbers_of};
+ghost use Rattle.batch_write.specs.Batch.{HasBatch, HasBlock, HasWritten, IsOldBut, IsOldOrNew, IsPlace, IsTried, LeavesOnly, SameOutside, blocks_of, numbers_of};
 
 use crate::superblock::write_super_again;
 use blk_base::{Addr, Block};
@@ -30,7 +30,7 @@ pub fn write_batch<D: Disk>(
     ensures crash { IfBoth (D.told disk.old) (D.told disk.new) (λ old new. EveryMoment old new (IsOldOrNew old (blocks_of batch.now) superblock.now)) }
     ensures done { OnOk result (IfBoth (D.told disk.old) (D.told disk.new) (λ old new. LeavesOnly new (HasBatch old (blocks_of batch.now) superblock.now))) }
     ensures untried { IsErrOf result (DeviceFault.Disk false) → IfBoth (D.told disk.old) (D.told disk.new) (λ old new. LeavesOnly new (IsOldBut old (numbers_of (blocks_of batch.now)))) }
-    ensures tried { IsErrOf result (DeviceFault.Disk true) → IfBoth (D.told disk.old) (D.told disk.new) (λ old new. LeavesOnly new (λ image. IsOldOrNew old (blocks_of batch.now) superblock.now image × All (HasBlock image) (blocks_of batch.now))) }
+    ensures tried { IsErrOf result (DeviceFault.Disk true) → IfBoth (D.told disk.old) (D.told disk.new) (λ old new. LeavesOnly new (IsTried old (blocks_of batch.now) superblock.now)) }
 
     ensures cause { HasCause (D.faults disk.old) (D.faults disk.new) result }
 {

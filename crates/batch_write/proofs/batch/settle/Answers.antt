@@ -1,7 +1,7 @@
 use Rattle.std.proofs.Common.{List, Option, All, is_ok, sym, subst}
 use Rattle.disk_model.specs.Disk.{Image, IfTold}
-use Rattle.batch_write.specs.Batch.{AtBlock, HasBlock, blocks_of, numbers_of}
-use Rattle.batch_write.proofs.ImageLemmas.{NoSuper, to_on_ok}
+use Rattle.batch_write.specs.Batch.{AtBlock, HasBlock, NoSuper, blocks_of, numbers_of}
+use Rattle.batch_write.proofs.ImageLemmas.{to_on_ok}
 use Rattle.batch_write.proofs.MomentLemmas.{batch_settles, so_far_flushes}
 use Rattle.batch_write.proofs.batch.settle.Goals as goal
 

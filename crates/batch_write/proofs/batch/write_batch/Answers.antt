@@ -1,6 +1,6 @@
 use Rattle.std.proofs.Common.{◌<◌, List, arith, is_ok}
-use Rattle.batch_write.specs.Batch.{AtBlock, blocks_of, numbers_of}
-use Rattle.batch_write.proofs.ImageLemmas.{NoSuper, from_ok, to_on_ok, written_whole}
+use Rattle.batch_write.specs.Batch.{AtBlock, NoSuper, blocks_of, numbers_of}
+use Rattle.batch_write.proofs.ImageLemmas.{from_ok, to_on_ok, written_whole}
 use Rattle.batch_write.proofs.MomentLemmas.{IsSettled, batch_moments, leaves_before_super, leaves_done, leaves_tried}
 use Rattle.batch_write.proofs.batch.write_batch.Goals as goal
 
