@@ -1,0 +1,8 @@
+pub mod Members
+pub mod EditLaws
+pub mod Among
+pub mod StepLaws
+pub mod Reading
+pub mod OtherTrees
+pub mod Counting
+pub mod Places
