@@ -1,0 +1,3 @@
+pub mod OnImage
+pub mod Above
+pub mod Sealing

@@ -1,0 +1,35 @@
+-- What a seal of some blocks makes of a table, and what it hands out.
+use Rattle.std.specs.Prelude.{◌≡◌, ◌≢◌, ◌≤◌, ℕ, true, List, ◌++◌, length, map, Contains}
+use Rattle.block_table.specs.declared.state.SlotState.TheVariants.{Dirty, Sealed}
+use Rattle.block_table.specs.Blocks.{AtBlock}
+use Rattle.block_table.specs.Slot.{BlockSlot}
+use Rattle.block_table.specs.Table.{Table}
+use Rattle.block_table.specs.TreeIn.{NoneTwice, block_at}
+
+-- what becomes of a block: a Dirty one is Sealed, and a list that is out has it; another one stays as it is (own)
+pub record IsSealedSlot (old new : BlockSlot) : Type 0 where
+  pub dirty : old.state ≡ Dirty → new ≡ record old { state = Sealed; bytes = new.bytes; out = true }
+  pub written : old.state ≢ Dirty → new ≡ old
+
+-- the Dirty ones among these blocks are Sealed, and every other block stays as it was (own)
+pub record IsSealing (old new : Table) (reach : List ℕ) : Type 0 where
+  pub size : length new.slots ≡ length old.slots
+  pub spare : new.spare ≡ old.spare
+  pub lists : new.lists ≡ old.lists
+  pub slots : (at : ℕ) → Contains reach at → IsSealedSlot (block_at old at) (block_at new at)
+  pub others : (at : ℕ) → (Contains reach at → ⊥) → block_at new at ≡ block_at old at
+
+-- a block as it is handed out: where it is to stand, and the bytes that the table has for it
+abbrev pub as_handed : Table → ℕ → AtBlock
+as_handed table at = (record { 0 = at }, (block_at table at).bytes)
+
+-- The Dirty ones among these blocks are put behind a list, each once, with the bytes that the table has for it afterwards
+-- (own).
+pub record AreHanded (old new : Table) (reach : List ℕ) (before after : List AtBlock) : Type 0 where
+  pub order : List ℕ
+  pub pairs : after ≡ before ++ map (as_handed new) order
+  pub once : NoneTwice order
+  pub few : length order ≤ length reach
+  pub reached : (at : ℕ) → Contains order at → Contains reach at
+  pub dirty : (at : ℕ) → Contains order at → (block_at old at).state ≡ Dirty
+  pub each : (at : ℕ) → Contains reach at → (block_at old at).state ≡ Dirty → Contains order at

@@ -1,0 +1,8 @@
+//! A tree's Dirty blocks are sealed and handed out.
+//!
+//! `seal_tree` gives each Dirty block of a tree its header and its sum, from the leaves up, and puts a box with its bytes
+//! at the end of a list. `laws` says that a tree without Dirty blocks, whose blocks pass their headers' checks, is the
+//! tree of each image that has its blocks.
+#![tactic(auto)]
+
+pub mod laws;
