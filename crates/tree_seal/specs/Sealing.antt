@@ -1,5 +1,7 @@
 -- What a seal of some blocks makes of a table, and what it hands out.
 use Rattle.std.specs.Prelude.{◌≡◌, ◌≢◌, ◌≤◌, ℕ, true, List, ◌++◌, length, map, Contains}
+use Rattle.blk_base.specs.declared.key.Want.{Want}
+use Rattle.blk_base.specs.Leaf.{Item, Pointer, HeaderFits, IsLeafBody, IsNodeBody}
 use Rattle.block_table.specs.declared.state.SlotState.TheVariants.{Dirty, Sealed}
 use Rattle.block_table.specs.Blocks.{AtBlock}
 use Rattle.block_table.specs.Slot.{BlockSlot}
@@ -22,6 +24,17 @@ pub record IsSealing (old new : Table) (reach : List ℕ) : Type 0 where
 -- a block as it is handed out: where it is to stand, and the bytes that the table has for it
 abbrev pub as_handed : Table → ℕ → AtBlock
 as_handed table at = (record { 0 = at }, (block_at table at).bytes)
+
+-- bytes that have the body of other bytes: what is a leaf or a node by these is the same one by those (own)
+pub record HasSameBody (old new : List ℕ) : Type 0 where
+  pub leaf : (items : List Item) → IsLeafBody old items → IsLeafBody new items
+  pub node : (pointers : List Pointer) → IsNodeBody old pointers → IsNodeBody new pointers
+
+-- a block was Dirty, and is Sealed with the header that is wanted and the body that it had; a list that is out has it (own)
+pub record IsSealedOne (old new : Table) (want : Want) : Type 0 where
+  pub slot : block_at new want.at.0 ≡ record (block_at old want.at.0) { state = Sealed; bytes = (block_at new want.at.0).bytes; out = true }
+  pub header : HeaderFits want (block_at new want.at.0).bytes
+  pub body : HasSameBody (block_at old want.at.0).bytes (block_at new want.at.0).bytes
 
 -- The Dirty ones among these blocks are put behind a list, each once, with the bytes that the table has for it afterwards
 -- (own).
