@@ -19,7 +19,7 @@ cut_suc (y ∷ ys) (suc place) x h =
     let rest = cut_suc ys place x h in
     (ap (λ l. y ∷ l) rest.0, rest.1)
 
-take_and_drop : {X : Type 0} (xs : List X) (place : ℕ) → xs ≡ take place xs ++ drop place xs
+pub take_and_drop : {X : Type 0} (xs : List X) (place : ℕ) → xs ≡ take place xs ++ drop place xs
 take_and_drop [] zero = refl
 take_and_drop [] (suc place) = refl
 take_and_drop (x ∷ xs) zero = refl

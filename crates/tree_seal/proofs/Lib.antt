@@ -5,3 +5,6 @@ pub mod Bodies
 pub mod Single
 pub mod Cuts
 pub mod Handed
+pub mod Half
+pub mod Whole
+pub mod Walk

@@ -1,12 +1,14 @@
 -- What a seal of some blocks makes of a table, and what it hands out.
-use Rattle.std.specs.Prelude.{◌≡◌, ◌≢◌, ◌≤◌, ℕ, true, List, ◌++◌, length, map, Contains}
+use Rattle.std.specs.Prelude.{◌≡◌, ◌≢◌, ◌≤◌, ℕ, Bool, true, List, ◌++◌, length, map, Contains}
 use Rattle.blk_base.specs.declared.key.Want.{Want}
 use Rattle.blk_base.specs.Leaf.{Item, Pointer, HeaderFits, IsLeafBody, IsNodeBody}
 use Rattle.block_table.specs.declared.state.SlotState.TheVariants.{Dirty, Sealed}
 use Rattle.block_table.specs.Blocks.{AtBlock}
 use Rattle.block_table.specs.Slot.{BlockSlot}
 use Rattle.block_table.specs.Table.{Table}
-use Rattle.block_table.specs.TreeIn.{NoneTwice, block_at}
+use Rattle.block_table.specs.TreeIn.{IsSealedSubtree, NoneTwice, block_at}
+use Rattle.tree_range.specs.Shape.{IsSubtree, items_below, reach_below}
+use Rattle.tree_seal.specs.Above.{DirtyIsAbove}
 
 -- what becomes of a block: a Dirty one is Sealed, and a list that is out has it; another one stays as it is (own)
 pub record IsSealedSlot (old new : BlockSlot) : Type 0 where
@@ -46,3 +48,22 @@ pub record AreHanded (old new : Table) (reach : List ℕ) (before after : List A
   pub reached : (at : ℕ) → Contains order at → Contains reach at
   pub dirty : (at : ℕ) → Contains order at → (block_at old at).state ≡ Dirty
   pub each : (at : ℕ) → Contains reach at → (block_at old at).state ≡ Dirty → Contains order at
+
+-- ---- a subtree
+
+-- A Dirty block on this level and what stands below it are a subtree that may be sealed: the blocks that aren't Dirty pass
+-- their headers' checks, and none of them stands above a Dirty one (own).
+pub record IsSealable (level : ℕ) (table : Table) (want : Want) : Type 0 where
+  pub is_root : Bool
+  pub shape : IsSubtree level table is_root want.at.0
+  pub dirty : (block_at table want.at.0).state ≡ Dirty
+  pub seals : IsSealedSubtree level table want
+  pub above : DirtyIsAbove level table want.at.0
+  pub once : NoneTwice (reach_below level table want.at.0)
+
+-- what stands below a block stays as it was, and each block passes its header's checks (own)
+pub record IsSealedBelow (level : ℕ) (old new : Table) (want : Want) : Type 0 where
+  pub items : items_below level new want.at.0 ≡ items_below level old want.at.0
+  pub reach : reach_below level new want.at.0 ≡ reach_below level old want.at.0
+  pub shape : (is_root : Bool) → IsSubtree level old is_root want.at.0 → IsSubtree level new is_root want.at.0
+  pub seals : IsSealedSubtree level new want

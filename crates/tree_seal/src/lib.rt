@@ -7,3 +7,4 @@
 
 pub mod laws;
 mod one;
+mod seal;
