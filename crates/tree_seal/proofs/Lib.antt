@@ -8,3 +8,4 @@ pub mod Handed
 pub mod Half
 pub mod Whole
 pub mod Walk
+pub mod Trees

@@ -125,7 +125,7 @@ child_now level old new want before after place count generation at able half co
     }
 
 -- what a Dirty block is read with may have any generation
-any_generation : (level : ℕ) (table : Table) (want : Want) (generation : ℕ) → (block_at table want.at.0).state ≡ Dirty → IsSealedSubtree level table want → IsSealedSubtree level table (record want { generation = generation })
+pub any_generation : (level : ℕ) (table : Table) (want : Want) (generation : ℕ) → (block_at table want.at.0).state ≡ Dirty → IsSealedSubtree level table want → IsSealedSubtree level table (record want { generation = generation })
 any_generation zero table want generation dirty h = λ written. absurd (written dirty)
 any_generation (suc level) table want generation dirty h = (λ written. absurd (written dirty), h.1)
 

@@ -8,3 +8,5 @@
 pub mod laws;
 mod one;
 mod seal;
+
+pub use seal::seal_tree;
