@@ -1,10 +1,9 @@
 -- Where Dirty blocks stand below Dirty ones alone.
-use Rattle.std.proofs.Common.{◌≡◌, ◌≢◌, ℕ, zero, suc, List, [], ◌∷◌, ◌++◌, refl, ap, ◌∙◌, sym, subst}
+use Rattle.std.proofs.Common.{◌≡◌, ◌≢◌, ℕ, zero, suc, List, [], ap, ◌∙◌, sym, subst}
 use Rattle.std.specs.Prelude.{All, slice_index_or}
 use Rattle.std.specs.List.{flat_map}
 use Rattle.std.proofs.lemmas.List.Elements.{All-nil, All-cons, All-head, All-tail, All-weaker}
 use Rattle.blk_base.specs.Leaf.{Pointer}
-use Rattle.block_table.specs.declared.state.SlotState.{SlotState}
 use Rattle.block_table.specs.declared.state.SlotState.TheVariants.{Dirty}
 use Rattle.block_table.specs.Slot.{BlockSlot}
 use Rattle.block_table.specs.Table.{Table}

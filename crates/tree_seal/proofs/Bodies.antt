@@ -1,6 +1,5 @@
 -- A block whose number of items and whose bytes behind the header stay has the body that it had.
-use Rattle.std.proofs.Common.{◌≡◌, ◌≤◌, ◌<◌, ◌+◌, ◌*◌, ℕ, List, length, drop, refl, ap, ◌∙◌, sym, subst, arith, Some}
-use Rattle.std.specs.Prelude.{slice_get}
+use Rattle.std.proofs.Common.{◌≡◌, ◌≤◌, ◌<◌, ◌+◌, ◌*◌, ℕ, List, length, drop, ap, ◌∙◌, sym, subst, arith, Some}
 use Rattle.blk_base.specs.declared.key.Key.{Key}
 use Rattle.blk_base.specs.Bytes.{bytes_at, field}
 use Rattle.blk_base.specs.Keys.{KeyBelow, key_at}

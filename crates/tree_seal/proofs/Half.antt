@@ -1,9 +1,8 @@
 -- A node of which some children are sealed.
-use Rattle.std.proofs.Common.{◌≡◌, ◌≢◌, ◌≤◌, ◌<◌, ◌+◌, ◌⊎◌, ℕ, zero, suc, Bool, true, false, List, [], ◌∷◌, ◌++◌, length, map, take, drop, slice_get, refl, ap, ◌∙◌, sym, subst, Some, arith, inl, inr, append_assoc, if◌then◌else◌}
+use Rattle.std.proofs.Common.{◌≡◌, ◌≢◌, ◌+◌, ℕ, zero, suc, Bool, true, false, List, [], ◌∷◌, ◌++◌, length, map, take, drop, slice_get, refl, ap, ◌∙◌, sym, subst, Some, arith, inl, inr, append_assoc, if◌then◌else◌}
 use Rattle.std.specs.Prelude.{All, Contains, slice_index_or}
 use Rattle.tree_frame.proofs.Reading.{all_parts}
 use Rattle.std.specs.List.{flat_map}
-use Rattle.std.proofs.lemmas.List.{append-nil}
 use Rattle.std.proofs.lemmas.List.Elements.{All-contains, All-contains_itself, All-nil, All-push, All-same, All-weaker, Contains-append_cases, Contains-append_left, Contains-append_right}
 use Rattle.blk_base.specs.declared.key.Want.{Want}
 use Rattle.blk_base.specs.Leaf.{Pointer}
@@ -13,18 +12,17 @@ use Rattle.block_table.specs.declared.state.SlotState.TheVariants.{Free, Dirty, 
 use Rattle.block_table.specs.Blocks.{AtBlock}
 use Rattle.block_table.specs.Slot.{BlockSlot}
 use Rattle.block_table.specs.Table.{Table}
-use Rattle.block_table.specs.TreeIn.{IsSealedSubtree, IsTaken, NoneTwice, block_at, child_want}
-use Rattle.tree_range.specs.Shape.{AreAlike, IsSubtree, items_below, node_pointers, reach_below}
-use Rattle.tree_range.proofs.Law.{Child}
+use Rattle.block_table.specs.TreeIn.{IsSealedSubtree, NoneTwice, block_at, child_want}
+use Rattle.tree_range.specs.Shape.{AreAlike, node_pointers, reach_below}
 use Rattle.tree_range.proofs.Local.{IsAlikeBelow, alike_below, node_pointers_alike}
-use Rattle.tree_frame.proofs.Members.{in_head, in_tail, in_nothing, in_one, once_apart, once_left, once_right}
+use Rattle.tree_frame.proofs.Members.{in_nothing, in_one, once_apart, once_left, once_right}
 use Rattle.tree_blocks.specs.Lists.{IsNodeBlock, node_list}
 use Rattle.tree_blocks.specs.Steps.{HasNewBytes, IsDirtyNode, IsSameBut, node_at}
 use Rattle.tree_seal.specs.Above.{DirtyIsAbove}
 use Rattle.tree_seal.specs.OnImage.{AreClean}
-use Rattle.tree_seal.specs.Sealing.{AreHanded, IsSealable, IsSealedBelow, IsSealedSlot, IsSealing}
-use Rattle.tree_seal.proofs.Above.{Under, above_alike, clean_below}
-use Rattle.tree_seal.proofs.Cuts.{IsCut, cut_at, all_at, map_append, joined_more, joined_whole}
+use Rattle.tree_seal.specs.Sealing.{AreHanded, IsSealedBelow, IsSealedSlot, IsSealing}
+use Rattle.tree_seal.proofs.Above.{clean_below}
+use Rattle.tree_seal.proofs.Cuts.{IsCut, cut_at, map_append, joined_more, joined_whole}
 use Rattle.tree_seal.proofs.Handed.{handed_later, handed_more, handed_none, handed_nothing}
 use Rattle.tree_seal.proofs.Local.{sealed_alike}
 
@@ -195,7 +193,7 @@ listed_more f pointers place pointer changed cut is =
     let one : map f (take (place + 1) pointers) ≡ front ++ changed ∷ [] = ap (map f) cut.more ∙ map_append f (take place pointers) (pointer ∷ []) ∙ ap (λ (p : Pointer). front ++ p ∷ []) is in
     sym (ap (λ (l : List Pointer). l ++ behind) one ∙ append_assoc front (changed ∷ []) behind)
 
-each_more : (P : Pointer → Type 0) (pointers : List Pointer) (place : ℕ) (pointer : Pointer) → IsCut pointers place pointer → All P (take place pointers) → P pointer → All P (take (place + 1) pointers)
+pub each_more : (P : Pointer → Type 0) (pointers : List Pointer) (place : ℕ) (pointer : Pointer) → IsCut pointers place pointer → All P (take place pointers) → P pointer → All P (take (place + 1) pointers)
 each_more P pointers place pointer cut all one = subst (λ (l : List Pointer). All P l) (sym cut.more) (All-push P (take place pointers) pointer all one)
 
 -- a child that isn't Dirty is passed over

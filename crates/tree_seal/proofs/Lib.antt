@@ -9,3 +9,5 @@ pub mod Half
 pub mod Whole
 pub mod Walk
 pub mod Trees
+pub mod Ready
+pub mod Edited

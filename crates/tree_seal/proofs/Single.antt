@@ -1,5 +1,5 @@
 -- One block is sealed.
-use Rattle.std.proofs.Common.{◌≡◌, ◌/◌, ◌%◌, ◌<◌, ℕ, true, List, length, refl, ap, ◌∙◌, sym, subst}
+use Rattle.std.proofs.Common.{◌≡◌, ℕ, true, List, ap, ◌∙◌, sym, subst}
 use Rattle.blk_base.specs.declared.key.Want.{Want}
 use Rattle.blk_base.specs.Leaf.{HeaderFits}
 use Rattle.block_table.specs.declared.state.SlotState.TheVariants.{Dirty, Sealed}

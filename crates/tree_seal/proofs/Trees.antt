@@ -1,6 +1,6 @@
 -- A whole tree is sealed, or is as it was.
-use Rattle.std.proofs.Common.{◌≡◌, ◌≢◌, ◌⊎◌, ℕ, List, [], ◌++◌, true, refl, ap, ◌∙◌, sym, subst, inl, inr}
-use Rattle.std.specs.Prelude.{All, Contains}
+use Rattle.std.proofs.Common.{◌≡◌, ◌≢◌, ◌⊎◌, ℕ, List, [], true, refl, ap, ◌∙◌, sym, subst, inl, inr}
+use Rattle.std.specs.Prelude.{Contains}
 use Rattle.std.proofs.lemmas.List.Elements.{All-contains, All-contains_itself, All-weaker}
 use Rattle.block_table.specs.declared.state.SlotState.{SlotState}
 use Rattle.block_table.specs.declared.state.SlotState.TheVariants.{Free, Dirty, Sealed, Live, LetGo}
@@ -17,7 +17,7 @@ use Rattle.tree_seal.proofs.Above.{clean_below}
 use Rattle.tree_seal.proofs.Handed.{handed_none, handed_nothing}
 use Rattle.tree_seal.proofs.Walk.{any_generation}
 
-dirty_or_not : (state : SlotState) → (state ≡ Dirty) ⊎ (state ≢ Dirty)
+pub dirty_or_not : (state : SlotState) → (state ≡ Dirty) ⊎ (state ≢ Dirty)
 dirty_or_not Free = inr (λ e. cc)
 dirty_or_not Dirty = inl refl
 dirty_or_not Sealed = inr (λ e. cc)

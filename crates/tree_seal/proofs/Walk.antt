@@ -1,9 +1,9 @@
 -- The steps of a seal of a subtree, as its code takes them.
-use Rattle.std.proofs.Common.{◌≡◌, ◌≢◌, ◌≤◌, ◌<◌, ◌+◌, ◌-◌, ℕ, zero, suc, Bool, true, false, List, [], ◌∷◌, ◌++◌, length, length-append, map, take, drop, slice_get, refl, ap, ◌∙◌, sym, subst, Option, Some, None, arith}
-use Rattle.std.specs.Prelude.{All, Contains}
+use Rattle.std.proofs.Common.{◌≡◌, ◌≢◌, ◌≤◌, ◌<◌, ◌+◌, ◌-◌, ℕ, zero, suc, false, List, [], ◌∷◌, ◌++◌, length, length-append, map, take, drop, slice_get, refl, ap, ◌∙◌, sym, subst, Option, Some, arith}
+use Rattle.std.specs.Prelude.{Contains}
 use Rattle.std.specs.List.{flat_map}
 use Rattle.std.proofs.lemmas.List.{length-map}
-use Rattle.std.proofs.lemmas.Option.{same_Some, slice_get-map, slice_get-get_or}
+use Rattle.std.proofs.lemmas.Option.{same_Some}
 use Rattle.blk_base.specs.declared.key.Addr.{Addr}
 use Rattle.blk_base.specs.declared.key.Want.{Want}
 use Rattle.blk_base.specs.Leaf.{Pointer, IsNodeBody}
@@ -79,7 +79,7 @@ pub record IsChildNow (level : ℕ) (old : Table) (want : Want) (place : ℕ) (a
   pub seals : IsSealedSubtree level old (child_want want pointer level)
   pub itself : Contains (reach_below level old pointer.at) pointer.at
 
-reach_itself : (level : ℕ) (table : Table) (at : ℕ) → Contains (reach_below level table at) at
+pub reach_itself : (level : ℕ) (table : Table) (at : ℕ) → Contains (reach_below level table at) at
 reach_itself zero table at = in_head at at [] refl
 reach_itself (suc level) table at = in_head at at (flat_map (λ (pointer : Pointer). reach_below level table pointer.at) (node_pointers table at)) refl
 
@@ -93,7 +93,7 @@ front_long f [] place h = absurd (omega arith)
 front_long f (pointer ∷ pointers) zero h = refl
 front_long f (pointer ∷ pointers) (suc place) h = omega (arith, front_long f pointers place (omega arith))
 
-first_same : (a b x y : ℕ) → ◌≡◌ {A = Option (ℕ × ℕ)} (Some (a, b)) (Some (x, y)) → a ≡ x
+pub first_same : (a b x y : ℕ) → ◌≡◌ {A = Option (ℕ × ℕ)} (Some (a, b)) (Some (x, y)) → a ≡ x
 first_same a b x y h = let same = same_Some (a, b) (x, y) h in ap (λ (pair : ℕ × ℕ). pair.0) same
 
 pub child_now : (level : ℕ) (old new : Table) (want : Want) (before after : List AtBlock) (place count generation : ℕ) (at : Addr) → IsSealable (suc level) old want → IsHalfSealed level old new want before after place

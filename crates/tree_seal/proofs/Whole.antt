@@ -1,27 +1,26 @@
 -- A block is sealed once all that stands below it is.
-use Rattle.std.proofs.Common.{◌≡◌, ◌≢◌, ◌≤◌, ◌<◌, ◌+◌, ℕ, zero, suc, Bool, true, false, List, [], ◌∷◌, ◌++◌, length, map, take, drop, refl, ap, ◌∙◌, sym, subst, Some, Ok, IsOk, arith, inl, inr}
+use Rattle.std.proofs.Common.{◌≡◌, ◌≢◌, ◌≤◌, ℕ, suc, true, false, List, [], ◌∷◌, ◌++◌, length, map, take, refl, ap, ◌∙◌, sym, subst, Some, Ok, inl, inr}
 use Rattle.std.specs.Prelude.{All, Contains, slice_index_or}
 use Rattle.std.specs.List.{flat_map}
 use Rattle.std.proofs.lemmas.List.{append-nil, length-map}
 use Rattle.std.proofs.lemmas.List.Elements.{All-map, All-weaker}
 use Rattle.blk_base.specs.declared.key.Want.{Want}
 use Rattle.blk_base.specs.Address.{IsAllowed}
-use Rattle.blk_base.specs.Leaf.{Item, Pointer, HeaderFits, IsLeafBody, IsNodeBody, leaf_body_of, node_body_of}
-use Rattle.block_table.specs.declared.state.SlotState.TheVariants.{Free, Dirty, Sealed}
+use Rattle.blk_base.specs.Leaf.{Item, Pointer, IsLeafBody, IsNodeBody, leaf_body_of, node_body_of}
+use Rattle.block_table.specs.declared.state.SlotState.TheVariants.{Free, Sealed}
 use Rattle.block_table.specs.Blocks.{AtBlock}
 use Rattle.block_table.specs.Slot.{BlockSlot}
 use Rattle.block_table.specs.Table.{Table}
-use Rattle.block_table.specs.TreeIn.{IsSealedBlock, IsSealedSubtree, IsTaken, NoneTwice, block_at, child_want, first_key, least_items, least_pointers}
+use Rattle.block_table.specs.TreeIn.{IsSealedSubtree, IsTaken, block_at, child_want, first_key, least_items, least_pointers}
 use Rattle.leaf_view.proofs.LeafLaws.{leaf_body_from, leaf_body_means}
 use Rattle.leaf_view.proofs.NodeLaws.{node_body_from, node_body_means}
 use Rattle.tree_range.specs.Shape.{AreAlike, IsSubtree, items_below, leaf_items, node_pointers, reach_below}
-use Rattle.tree_range.proofs.Bodies.{is_ok, leaf_body_is, leaf_items_are, node_body_is, node_pointers_are}
+use Rattle.tree_range.proofs.Bodies.{is_ok, leaf_body_is, leaf_items_are, node_pointers_are}
 use Rattle.tree_range.proofs.Law.{Child}
 use Rattle.tree_frame.proofs.Reading.{all_parts}
 use Rattle.tree_frame.proofs.Members.{in_cons, in_head, in_nothing, in_one, in_tail}
-use Rattle.tree_blocks.specs.Lists.{IsNodeBlock, node_list}
 use Rattle.tree_blocks.specs.Steps.{IsSameBut, node_at}
-use Rattle.tree_seal.specs.Sealing.{AreHanded, HasSameBody, IsSealable, IsSealedBelow, IsSealedOne, IsSealedSlot, IsSealing, as_handed}
+use Rattle.tree_seal.specs.Sealing.{AreHanded, IsSealable, IsSealedBelow, IsSealedOne, IsSealedSlot, IsSealing, as_handed}
 use Rattle.tree_seal.proofs.Cuts.{drop_whole, joined_map, take_whole}
 use Rattle.tree_seal.proofs.Half.{IsHalfSealed, alike_by, done_below, sealed_later, node_at_shown, resealed, resealed_at, resealed_key}
 use Rattle.tree_seal.proofs.Handed.{handed_last, handed_nothing}

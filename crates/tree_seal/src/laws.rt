@@ -7,7 +7,8 @@ ghost use Rattle.block_table.specs.Table.{Table};
 ghost use Rattle.block_table.specs.TreeIn.{IsSealedTree, block_at};
 ghost use Rattle.block_table.specs.declared.state.SlotState.TheVariants.{Dirty};
 ghost use Rattle.tree_range.specs.Shape.{AreAlike, IsTree, reach_below, tree_items, tree_reach};
-ghost use Rattle.tree_seal.specs.Above.{DirtyIsAbove};
+ghost use Rattle.tree_frame.specs.Frame.{IsEdit};
+ghost use Rattle.tree_seal.specs.Above.{DirtyIsAbove, IsDirtyAbove};
 ghost use Rattle.volume_image.specs.Tree as of_image;
 ghost use Rattle.tree_seal.specs.OnImage.{AreClean, HasBlocks, root_want};
 
@@ -30,4 +31,10 @@ pub fn clean_is_dirty_above()
 /// Whether Dirty blocks stand below Dirty ones alone depends on the blocks that are reached alone (own).
 pub fn dirty_above_is_local()
     ensures { (level : ℕ) (old new : Table) (at : ℕ) → AreAlike old new (reach_below level old at) → DirtyIsAbove level old at → DirtyIsAbove level new at }
+{}
+
+/// An edit of a tree leaves no Dirty block below one that isn't, where the blocks that aren't Dirty pass their headers'
+/// checks before and after it: a block that isn't Dirty is one from before (own).
+pub fn an_edit_keeps_dirty_above()
+    ensures { (old new : Table) (before after : Tree) (fsid : List ℕ) (was is : ℕ) → IsEdit old new (tree_reach old before) (tree_reach new after) → IsTree old before → IsTree new after → IsSealedTree old before fsid was → IsSealedTree new after fsid is → IsDirtyAbove old before → IsDirtyAbove new after }
 {}

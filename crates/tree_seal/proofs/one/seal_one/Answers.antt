@@ -1,6 +1,5 @@
-use Rattle.std.proofs.Common.{◌≡◌, ◌∙◌, List, ℕ, ap, subst, drop}
+use Rattle.std.proofs.Common.{◌∙◌, List, ℕ, ap, drop}
 use Rattle.blk_base.specs.Leaf.{count_of}
-use Rattle.tree_seal.specs.Sealing.{HasSameBody}
 use Rattle.tree_seal.proofs.Bodies.{body_kept}
 use Rattle.tree_seal.proofs.Single.{one_sealed}
 use Rattle.tree_seal.proofs.one.seal_one.Goals as goal

@@ -1,5 +1,5 @@
-use Rattle.std.proofs.Common.{true≢false, ◌≡◌, ◌≢◌, ◌≤◌, ◌<◌, ◌+◌, ◌-◌, ℕ, suc, List, length, refl, ap, ◌∙◌, sym, subst, arith}
-use Rattle.block_table.specs.Blocks.{BlockList, AtBlock}
+use Rattle.std.proofs.Common.{true≢false, ◌≡◌, ◌≢◌, ◌≤◌, ◌<◌, ◌+◌, ◌-◌, ℕ, suc, length, refl, ap, ◌∙◌, sym, subst, arith}
+use Rattle.block_table.specs.Blocks.{BlockList}
 use Rattle.block_table.specs.Table.{Table, state_at}
 use Rattle.block_table.specs.declared.state.SlotState.TheVariants.{Dirty}
 use Rattle.block_table.specs.Slot.{BlockSlot}

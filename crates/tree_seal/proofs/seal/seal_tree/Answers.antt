@@ -1,6 +1,4 @@
-use Rattle.std.proofs.Common.{true≢false, ◌≢◌, ◌∙◌, sym, subst, List, ℕ}
-use Rattle.block_table.specs.declared.state.SlotState.TheVariants.{Dirty}
-use Rattle.block_table.specs.Table.{state_at}
+use Rattle.std.proofs.Common.{true≢false, ◌∙◌, sym, subst, List, ℕ}
 use Rattle.tree_range.specs.Shape.{tree_reach}
 use Rattle.tree_seal.specs.OnImage.{AreClean}
 use Rattle.tree_seal.proofs.Trees.{nothing_handed, nothing_sealed, sealing_clean, tree_able, tree_clean, tree_sealed}

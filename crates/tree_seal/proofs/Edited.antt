@@ -1,0 +1,152 @@
+-- An edit of a tree leaves no Dirty block below one that isn't.
+use Rattle.std.proofs.Common.{◌≡◌, ◌≢◌, ◌<◌, ℕ, zero, suc, Bool, true, false, List, [], ◌∷◌, length, refl, ◌∙◌, sym, subst, inl, inr, arith}
+use Rattle.std.specs.Prelude.{Contains, slice_index_or}
+use Rattle.std.specs.List.{flat_map}
+use Rattle.std.proofs.lemmas.List.Elements.{All-contains, Contains-append_cases, Contains-append_left, Contains-append_right}
+use Rattle.blk_base.specs.declared.key.Want.{Want}
+use Rattle.blk_base.specs.Leaf.{Pointer, HeaderFits, IsNodeBody}
+use Rattle.block_table.specs.declared.state.SlotState.TheVariants.{Dirty}
+use Rattle.block_table.specs.declared.tree.Tree.{Tree}
+use Rattle.block_table.specs.Slot.{BlockSlot}
+use Rattle.block_table.specs.Table.{Table}
+use Rattle.block_table.specs.TreeIn.{IsSealedBlock, IsSealedSubtree, IsSealedTree, block_at, child_want}
+use Rattle.leaf_view.proofs.NodeLaws.{node_body_means}
+use Rattle.tree_range.specs.Shape.{IsSubtree, IsTree, node_pointers, reach_below, tree_reach}
+use Rattle.tree_range.proofs.Bodies.{node_body_is}
+use Rattle.tree_range.proofs.Law.{Child}
+use Rattle.tree_range.proofs.Local.{node_pointers_alike}
+use Rattle.tree_frame.specs.Frame.{IsEdit}
+use Rattle.tree_frame.proofs.Members.{in_cons, in_head, in_nothing, in_one, in_tail, is_in}
+use Rattle.tree_seal.specs.Above.{DirtyIsAbove, IsDirtyAbove}
+use Rattle.tree_seal.specs.OnImage.{AreClean, root_want}
+use Rattle.tree_seal.proofs.Above.{Under, clean_below}
+use Rattle.tree_seal.proofs.Trees.{dirty_or_not}
+use Rattle.tree_seal.proofs.Walk.{reach_itself}
+
+-- ---- lists joined of one list for each pointer
+
+record IsBelow (g : Pointer → List ℕ) (pointers : List Pointer) (at : ℕ) : Type 0 where
+  pointer : Pointer
+  is : Contains pointers pointer
+  below : Contains (g pointer) at
+
+in_joined : (g : Pointer → List ℕ) (pointers : List Pointer) (at : ℕ) → Contains (flat_map g pointers) at → IsBelow g pointers at
+in_joined g [] at h = absurd (in_nothing at h)
+in_joined g (pointer ∷ pointers) at h = elim (Contains-append_cases (g pointer) (flat_map g pointers) at h) [
+  | inl here ↦ record { pointer = pointer; is = (0, omega arith, refl); below = here }
+  | inr there ↦
+      let rest : IsBelow g pointers at = in_joined g pointers at there in
+      record { pointer = rest.pointer; is = (suc rest.is.0, omega (arith, rest.is.1), rest.is.2); below = rest.below }
+]
+
+joined_in : (g : Pointer → List ℕ) (pointers : List Pointer) (place : ℕ) (d : Pointer) (at : ℕ) → place < length pointers → Contains (g (slice_index_or pointers place d)) at → Contains (flat_map g pointers) at
+joined_in g [] place d at within h = absurd (omega arith)
+joined_in g (pointer ∷ pointers) zero d at within h = Contains-append_left (g pointer) (flat_map g pointers) at h
+joined_in g (pointer ∷ pointers) (suc place) d at within h = Contains-append_right (g pointer) (flat_map g pointers) at (joined_in g pointers place d at (omega arith) h)
+
+-- ---- a block of a tree, and what is below it
+
+record IsFoundBelow (level : ℕ) (table : Table) (root at : ℕ) : Type 0 where
+  height : ℕ
+  want : Want
+  at_is : want.at.0 ≡ at
+  height_is : want.level ≡ height
+  above : DirtyIsAbove height table at
+  seals : IsSealedBlock table want
+  inside : (other : ℕ) → Contains (reach_below height table at) other → Contains (reach_below level table root) other
+
+block_seals : (level : ℕ) (table : Table) (want : Want) → IsSealedSubtree level table want → IsSealedBlock table want
+block_seals zero table want h = h
+block_seals (suc level) table want h = h.0
+
+found_here : (level : ℕ) (table : Table) (want : Want) (at : ℕ) → want.level ≡ level → DirtyIsAbove level table want.at.0 → IsSealedSubtree level table want → want.at.0 ≡ at → IsFoundBelow level table want.at.0 at
+found_here level table want at e above seals is = record {
+  height = level;
+  want = want;
+  at_is = is;
+  height_is = e;
+  above = subst (DirtyIsAbove level table) is above;
+  seals = block_seals level table want seals;
+  inside = λ other there. subst (λ (a : ℕ). Contains (reach_below level table a) other) (sym is) there;
+}
+
+found_below : (level : ℕ) (table : Table) (is_root : Bool) (want : Want) (at : ℕ) → want.level ≡ level → IsSubtree level table is_root want.at.0 → DirtyIsAbove level table want.at.0 → IsSealedSubtree level table want → Contains (reach_below level table want.at.0) at → IsFoundBelow level table want.at.0 at
+found_below zero table is_root want at e shape above seals there =
+    found_here 0 table want at e above seals (in_one want.at.0 at there)
+found_below (suc level) table is_root want at e shape above seals there =
+    let root = want.at.0 in
+    let pointers = node_pointers table root in
+    let g : Pointer → List ℕ = λ (pointer : Pointer). reach_below level table pointer.at in
+    elim (in_cons root at (flat_map g pointers) there) [
+      | inl is ↦ found_here (suc level) table want at e above seals is
+      | inr behind ↦
+          let one : IsBelow g pointers at = in_joined g pointers at behind in
+          let p : Pointer = one.pointer in
+          let body : IsNodeBody (block_at table root).bytes pointers = node_body_means (block_at table root).bytes pointers (node_body_is table root shape.1) in
+          let child : Child level table p = All-contains (Child level table) pointers p shape.3 one.is in
+          let under : Under level table root p = All-contains (Under level table root) pointers p above one.is in
+          let sealed : IsSealedSubtree level table (child_want want p level) = All-contains (λ (q : Pointer). IsSealedSubtree level table (child_want want q level)) pointers p (seals.1 pointers body) one.is in
+          let below : IsFoundBelow level table p.at at = found_below level table false (child_want want p level) at refl child.0 under.1 sealed one.below in
+          let up : (other : ℕ) → Contains (reach_below level table p.at) other → Contains (reach_below (suc level) table root) other = λ other k. in_tail root other (flat_map g pointers) (joined_in g pointers one.is.0 p other one.is.1 (subst (λ (q : Pointer). Contains (g q) other) (sym one.is.2) k)) in
+          record {
+            height = below.height;
+            want = below.want;
+            at_is = below.at_is;
+            height_is = below.height_is;
+            above = below.above;
+            seals = below.seals;
+            inside = λ other k. up other (below.inside other k);
+          }
+    ]
+
+-- ---- the edited tree
+
+-- where a block of the edited tree isn't Dirty, it is one from before, and so are the blocks below it
+child_clean : (old new : Table) (before after : List ℕ) (level root_level : ℕ) (root : ℕ) (want : Want) (place : ℕ) (d : Pointer) → IsEdit old new before after → ((at : ℕ) → Contains before at → Contains (reach_below root_level old root) at) → ((at : ℕ) → Contains (reach_below root_level old root) at → Contains before at)
+    → ((at : ℕ) → Contains (reach_below root_level old root) at → IsFoundBelow root_level old root at)
+    → want.level ≡ suc level → IsSealedBlock new want → Contains after want.at.0 → (block_at new want.at.0).state ≢ Dirty
+    → place < length (node_pointers new want.at.0) → Contains after (slice_index_or (node_pointers new want.at.0) place d).at → (block_at new (slice_index_or (node_pointers new want.at.0) place d).at).state ≢ Dirty
+child_clean old new before after level root_level root want place d edit to from found level_is seals here clean within child_here =
+    let at = want.at.0 in
+    let child : Pointer = slice_index_or (node_pointers new at) place d in
+    elim (is_in before at) [
+      | inr none ↦ absurd (clean (edit.fresh at here none).1)
+      | inl there ↦
+          let was_clean : (block_at old at).state ≢ Dirty = λ dirty. clean (edit.kept at there here ∙ dirty) in
+          let same : block_at new at ≡ block_at old at = edit.kept_whole at there here was_clean in
+          let block : IsFoundBelow root_level old root at = found at (to at there) in
+          let header_old : HeaderFits block.want (block_at old at).bytes = subst (λ (a : ℕ). HeaderFits block.want (block_at old a).bytes) block.at_is (block.seals (λ dirty. was_clean (subst (λ (a : ℕ). (block_at old a).state ≡ Dirty) block.at_is dirty))) in
+          let header_new : HeaderFits want (block_at old at).bytes = subst (λ (slot : BlockSlot). HeaderFits want slot.bytes) same (seals clean) in
+          let height : block.height ≡ suc level = sym block.height_is ∙ sym header_old.level ∙ header_new.level ∙ level_is in
+          let below_clean : AreClean old (reach_below (suc level) old at) = subst (λ (n : ℕ). AreClean old (reach_below n old at)) height (clean_below block.height old at block.above was_clean) in
+          let pointers : node_pointers new at ≡ node_pointers old at = node_pointers_alike old new at same in
+          let g : Pointer → List ℕ = λ (pointer : Pointer). reach_below level old pointer.at in
+          let in_new : Contains (flat_map g (node_pointers new at)) child.at = joined_in g (node_pointers new at) place d child.at within (reach_itself level old child.at) in
+          let in_old : Contains (reach_below (suc level) old at) child.at = in_tail at child.at (flat_map g (node_pointers old at)) (subst (λ (l : List Pointer). Contains (flat_map g l) child.at) pointers in_new) in
+          let child_was_clean : (block_at old child.at).state ≢ Dirty = All-contains (λ (a : ℕ). (block_at old a).state ≢ Dirty) (reach_below (suc level) old at) child.at below_clean in_old in
+          let child_there : Contains before child.at = from child.at (block.inside child.at (subst (λ (n : ℕ). Contains (reach_below n old at) child.at) (sym height) in_old)) in
+          λ dirty. child_was_clean (sym (edit.kept child.at child_there child_here) ∙ dirty)
+    ]
+
+edited_above : (old new : Table) (before after : List ℕ) (root_level root : ℕ) → IsEdit old new before after → ((at : ℕ) → Contains before at → Contains (reach_below root_level old root) at) → ((at : ℕ) → Contains (reach_below root_level old root) at → Contains before at)
+    → ((at : ℕ) → Contains (reach_below root_level old root) at → IsFoundBelow root_level old root at)
+    → (level : ℕ) (is_root : Bool) (want : Want) → want.level ≡ level → IsSubtree level new is_root want.at.0 → IsSealedSubtree level new want → ((at : ℕ) → Contains (reach_below level new want.at.0) at → Contains after at) → DirtyIsAbove level new want.at.0
+edited_above old new before after root_level root edit to from found zero is_root want level_is shape seals inside = tt
+edited_above old new before after root_level root edit to from found (suc level) is_root want level_is shape seals inside =
+    let at = want.at.0 in
+    let pointers = node_pointers new at in
+    let g : Pointer → List ℕ = λ (pointer : Pointer). reach_below level new pointer.at in
+    let body : IsNodeBody (block_at new at).bytes pointers = node_body_means (block_at new at).bytes pointers (node_body_is new at shape.1) in
+    λ i d within.
+    let p : Pointer = slice_index_or pointers i d in
+    let up : (other : ℕ) → Contains (reach_below level new p.at) other → Contains after other = λ other k. inside other (in_tail at other (flat_map g pointers) (joined_in g pointers i d other within k)) in
+    let child : Child level new p = shape.3 i d within in
+    let first : (block_at new p.at).state ≡ Dirty → (block_at new at).state ≡ Dirty = λ dirty. elim (dirty_or_not (block_at new at).state) [
+      | inl is ↦ is
+      | inr clean ↦ absurd (child_clean old new before after level root_level root want i d edit to from found level_is seals.0 (inside at (in_head at at (flat_map g pointers) refl)) clean within (up p.at (reach_itself level new p.at)) dirty)
+    ] in
+    (first, edited_above old new before after root_level root edit to from found level false (child_want want p level) refl child.0 (seals.1 pointers body i d within) up)
+
+pub an_edit_keeps_dirty_above : (old new : Table) (before after : Tree) (fsid : List ℕ) (was is : ℕ) → IsEdit old new (tree_reach old before) (tree_reach new after) → IsTree old before → IsTree new after → IsSealedTree old before fsid was → IsSealedTree new after fsid is → IsDirtyAbove old before → IsDirtyAbove new after
+an_edit_keeps_dirty_above old new before after fsid was is edit tree_old tree_new seals_old seals_new above =
+    edited_above old new (tree_reach old before) (tree_reach new after) before.level before.root.0 edit (λ at k. k) (λ at k. k) (λ at there. found_below before.level old true (root_want before fsid was) at refl tree_old.shape above seals_old there) after.level true (root_want after fsid is) refl tree_new.shape seals_new (λ at k. k)
