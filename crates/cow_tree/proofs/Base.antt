@@ -12,7 +12,7 @@ use Rattle.tree_range.specs.Part.{times_in}
 use Rattle.tree_range.specs.Shape.{IsSubtree, leaf_items}
 use Rattle.tree_range.proofs.Bodies.{leaf_items_are}
 use Rattle.tree_range.proofs.Cuts.{All-unmap}
-use Rattle.tree_range.proofs.Local.{flat_map_same}
+use Rattle.tree_frame.proofs.Reading.{flat_map_same}
 use Rattle.tree_blocks.specs.Steps.{IsLeafAt, leaf_at}
 use Rattle.tree_blocks.proofs.Listing.{leaf_from_ok, leaf_to_ok}
 use Rattle.tree_frame.specs.Frame.{with_item}

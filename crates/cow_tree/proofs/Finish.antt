@@ -15,7 +15,7 @@ use Rattle.tree_range.specs.Shape.{IsSubtree, items_below, node_pointers, reach_
 use Rattle.tree_range.proofs.Bodies.{node_body_is, node_pointers_are}
 use Rattle.tree_range.proofs.Cuts.{All-unmap}
 use Rattle.tree_range.proofs.Law.{Child}
-use Rattle.tree_range.proofs.Local.{all_parts, flat_map_same}
+use Rattle.tree_frame.proofs.Reading.{all_parts, flat_map_same}
 use Rattle.tree_range.proofs.Rise.{first_append}
 use Rattle.tree_range.proofs.Times.{none_twice_to, reach_taken}
 use Rattle.tree_blocks.specs.Steps.{IsDirtyNode, node_at}

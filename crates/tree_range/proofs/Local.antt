@@ -17,11 +17,11 @@ use Rattle.tree_range.proofs.Rise.{All-left, All-right}
 use Rattle.tree_range.proofs.Law.{Child}
 
 -- what holds of each element of each list holds of all
-pub all_parts : {X A : Type 0} (P : A → Type 0) (g : X → List A) (xs : List X) → All P (flat_map g xs) → All (λ x. All P (g x)) xs
+all_parts : {X A : Type 0} (P : A → Type 0) (g : X → List A) (xs : List X) → All P (flat_map g xs) → All (λ x. All P (g x)) xs
 all_parts P g [] h = All-nil (λ x. All P (g x))
 all_parts P g (x ∷ xs) h = All-cons (λ y. All P (g y)) x xs (All-left P (g x) (flat_map g xs) h) (all_parts P g xs (All-right P (g x) (flat_map g xs) h))
 
-pub flat_map_same : {X A : Type 0} (f g : X → List A) (xs : List X) → All (λ x. f x ≡ g x) xs → flat_map f xs ≡ flat_map g xs
+flat_map_same : {X A : Type 0} (f g : X → List A) (xs : List X) → All (λ x. f x ≡ g x) xs → flat_map f xs ≡ flat_map g xs
 flat_map_same f g [] h = refl
 flat_map_same f g (x ∷ xs) h =
     ap (λ l. l ++ flat_map f xs) (All-head (λ y. f y ≡ g y) x xs h) ∙ ap (λ l. g x ++ l) (flat_map_same f g xs (All-tail (λ y. f y ≡ g y) x xs h))
