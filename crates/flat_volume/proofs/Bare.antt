@@ -76,7 +76,7 @@ unmarked_names (at ∷ ats) (near ∷ nears) e = ap (λ xs. at ∷ xs) (unmarked
 abbrev pub seen : List (ℕ × FlatSub) → List (ℕ × RunSub)
 seen made = map (λ (e : ℕ × FlatSub). (e.0, sub_view e.1)) made
 
-seen_push : (made : List (ℕ × FlatSub)) (entry : ℕ × FlatSub) → seen (made ++ entry ∷ []) ≡ seen made ++ (entry.0, sub_view entry.1) ∷ []
+pub seen_push : (made : List (ℕ × FlatSub)) (entry : ℕ × FlatSub) → seen (made ++ entry ∷ []) ≡ seen made ++ (entry.0, sub_view entry.1) ∷ []
 seen_push [] entry = refl
 seen_push (first ∷ made) entry = ap (λ es. (first.0, sub_view first.1) ∷ es) (seen_push made entry)
 

@@ -1,7 +1,6 @@
 -- A subvolume in which one inode's record was changed, and a volume in which an operation was carried out.
-use Rattle.std.proofs.Common.{◌≡◌, ℕ, ◌+◌, Bool, true, List, [], ◌∷◌, set, get_or, Option, Some, None, refl, sym, ap, subst, ◌∙◌}
+use Rattle.std.proofs.Common.{◌≡◌, ℕ, ◌+◌, true, List, set, get_or, Some, None, refl, sym, ap, subst, ◌∙◌}
 use Rattle.std.specs.Bool.{◌==◌}
-use Rattle.std.specs.Option.{option_map, is_some}
 use Rattle.std.specs.Ordering.{nat_cmp}
 use Rattle.std.specs.Cmp.{nat_cmp_total}
 use Rattle.std.specs.List.{position}
@@ -19,7 +18,7 @@ use Rattle.flat_sub.specs.declared.sub.FlatSub.{FlatSub}
 use Rattle.flat_sub.specs.View.{sub_view, IsWellKept}
 use Rattle.flat_sub.specs.Ends.{ComesTo}
 use Rattle.flat_volume.specs.View.{volume_view, AreWellKept}
-use Rattle.flat_volume.specs.Building.{at_sub, at_inode, record_in}
+use Rattle.flat_volume.specs.Building.{at_inode, record_in}
 use Rattle.flat_volume.specs.Operated.{is_within_sub, operated}
 use Rattle.flat_volume.specs.Applying.{IsApplied}
 use Rattle.flat_volume.proofs.Views.{key_at, view_at, view_set}

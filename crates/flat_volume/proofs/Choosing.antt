@@ -8,7 +8,7 @@ use Rattle.flat_model.specs.Volume.{SubMarks, RunSub, RunVolume, bare_marks, las
 use Rattle.std.specs.Option.{unwrap_or}
 use Rattle.flat_model.specs.Records.{Attributes, InodeRecord, FileInode, new_file, new_dir, new_link}
 use Rattle.flat_model.specs.Walk.{walk, ino_at, record_at, is_absent, is_blocked}
-use Rattle.flat_model.specs.Operations.{Outcome, unchanged, unless_refused, unlink_rows, rmdir_rows, removal_done, file_rows, file_there, with_record_at, attributes_there, with_attributes_at, attribute_rows, new_name, without_entry, names_without, make_rows, make_done, link_rows, link_done, rename_rows, rename_done, exchange_rows, exchange_done, make, link, unlink, rmdir, rename, exchange, lookup, write, truncate, read, set_attribute, remove_attribute, get_attribute}
+use Rattle.flat_model.specs.Operations.{Outcome, unless_refused, unlink_rows, rmdir_rows, removal_done, file_rows, file_there, with_record_at, attributes_there, with_attributes_at, attribute_rows, new_name, without_entry, names_without, make_rows, make_done, link_rows, link_done, rename_rows, rename_done, exchange_rows, exchange_done, make, link, unlink, rmdir, rename, exchange, lookup, write, truncate, read, set_attribute, remove_attribute, get_attribute}
 use Rattle.flat_model.specs.Step.{VolumeOutcome, IsNextIndex, AreNextIndexes, at_place, volume_unchanged, marks_in, place_of, step}
 use Rattle.flat_model.specs.declared.answer.Answer.{Answer}
 use Rattle.flat_model.specs.declared.answer.Answer.TheVariants.{Plain, Number, Bytes, NoEnt, NotDir, TooLarge, Collide, Xdev}

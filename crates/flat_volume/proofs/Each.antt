@@ -4,7 +4,7 @@ use Rattle.std.specs.Option.{option_map}
 use Rattle.std.specs.Ordering.{nat_cmp, is_lt, eq_by_cmp}
 use Rattle.std.specs.Cmp.{nat_cmp_total, tied_itself, unsigned_tied}
 use Rattle.std.specs.List.{All}
-use Rattle.std.specs.FinMap.{FinMap, get, len, keys, entries, from_entries, is_sorted, get-from_entries, len-entries}
+use Rattle.std.specs.FinMap.{get, len, keys, from_entries, is_sorted, get-from_entries, len-entries}
 use Rattle.std.specs.FinMap.Entries.{find, below_all}
 use Rattle.std.proofs.lemmas.Bool.{and_parts, true≢false, ne_eqb, eq-eqb}
 use Rattle.blk_base.specs.declared.key.Ino.{Ino}

@@ -60,7 +60,7 @@ rising_listed : (count : ℕ) → is_sorted nat_cmp (listed count) ≡ true
 rising_listed zero = refl
 rising_listed (suc count) = and_from _ _ (below_range 5 256 count (omega arith)) (rising_range 256 count)
 
-length_seen : (made : List (ℕ × FlatSub)) → length (seen made) ≡ length made
+pub length_seen : (made : List (ℕ × FlatSub)) → length (seen made) ≡ length made
 length_seen [] = refl
 length_seen (e ∷ made) = ap suc (length_seen made)
 

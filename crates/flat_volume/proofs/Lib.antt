@@ -5,3 +5,4 @@ mod Each
 mod Kept
 mod Unmarking
 mod Views
+pub mod Copied

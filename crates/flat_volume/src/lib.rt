@@ -4,6 +4,7 @@
 #[cfg(test)]
 mod applied;
 mod applying;
+mod copying;
 mod flat_view;
 mod putting;
 mod reading;

@@ -1,14 +1,12 @@
-use Rattle.std.proofs.Common.{◌≡◌, ℕ, ◌∙◌, ap, sym, Some, None}
-use Rattle.std.specs.Option.{option_map, is_some, unwrap_or}
+use Rattle.std.proofs.Common.{◌∙◌, ap, sym}
+use Rattle.std.specs.Option.{is_some}
 use Rattle.std.proofs.lemmas.Bool.{true≢false}
-use Rattle.flat_model.specs.Records.{InodeRecord, kind_of}
 use Rattle.flat_model.specs.Volume.{RunSub}
-use Rattle.flat_model.proofs.Maps.{some_none, some_same}
 use Rattle.flat_sub.specs.View.{sub_view, IsWellKept}
 use Rattle.flat_volume.specs.Building.{with_attribute}
 use Rattle.flat_volume.proofs.Views.{on_ok, on_err}
 use Rattle.flat_volume.proofs.Kept.{rising_set}
-use Rattle.flat_volume.proofs.Changed.{entry_at, entry_nowhere, inode_set, inode_same}
+use Rattle.flat_volume.proofs.Changed.{entry_nowhere, inode_set, inode_same}
 use Rattle.flat_volume.proofs.putting.put_attr_in.Goals as goal
 
 pub unreachable-requires : goal.unreachable-requires

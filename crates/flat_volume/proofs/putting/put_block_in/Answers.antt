@@ -1,7 +1,6 @@
-use Rattle.std.proofs.Common.{◌≡◌, ℕ, ◌∙◌, ap, sym, Some, None}
-use Rattle.std.specs.Option.{option_map, is_some, unwrap_or}
-use Rattle.std.proofs.lemmas.Bool.{true≢false}
-use Rattle.flat_model.specs.Records.{InodeRecord, kind_of}
+use Rattle.std.proofs.Common.{◌∙◌, ap, sym}
+use Rattle.std.specs.Option.{option_map}
+use Rattle.flat_model.specs.Records.{kind_of}
 use Rattle.flat_model.specs.Volume.{RunSub}
 use Rattle.flat_model.proofs.Maps.{some_none, some_same}
 use Rattle.flat_sub.specs.View.{sub_view, IsWellKept}

@@ -1,9 +1,7 @@
-use Rattle.std.proofs.Common.{◌≡◌, List, sym, ap, ◌∙◌, refl, map, subst}
+use Rattle.std.proofs.Common.{sym, ap, ◌∙◌, refl, map, subst}
 use Rattle.std.specs.Bool.{nat_eq}
-use Rattle.std.specs.Result.{IfOk}
 use Rattle.std.specs.List.Sorted.{IsPermutation}
 use Rattle.std.proofs.lemmas.List.Sorted.{IsPermutation-refl}
-use Rattle.flat_model.specs.declared.view.NameAt.{NameAt}
 use Rattle.flat_model.specs.Names.{leads_to, names_of}
 use Rattle.flat_model.specs.Unmarked.{unmarked}
 use Rattle.flat_model.specs.Volume.{Subvolume}

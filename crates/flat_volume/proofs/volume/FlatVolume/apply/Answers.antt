@@ -1,8 +1,7 @@
-use Rattle.std.proofs.Common.{◌≡◌, ◌∙◌, sym, ap, subst, set}
+use Rattle.std.proofs.Common.{◌∙◌, sym, ap, subst, set}
 use Rattle.std.specs.Result.{IfOk}
 use Rattle.std.specs.FinMap.{get}
 use Rattle.blk_base.specs.declared.key.SubId.{SubId}
-use Rattle.flat_model.specs.Step.{place_of}
 use Rattle.flat_model.specs.Volume.{RunVolume}
 use Rattle.flat_volume.specs.View.{volume_view}
 use Rattle.flat_volume.specs.Applying.{IsApplied}

@@ -1,5 +1,4 @@
-use Rattle.std.proofs.Common.{◌≡◌, ◌∙◌, sym, Some, None}
-use Rattle.std.specs.FinMap.{get}
+use Rattle.std.proofs.Common.{◌∙◌, sym}
 use Rattle.flat_model.specs.Volume.{RunVolume}
 use Rattle.flat_sub.specs.View.{sub_view}
 use Rattle.flat_volume.proofs.Changed.{entry_at, entry_nowhere, record_there}

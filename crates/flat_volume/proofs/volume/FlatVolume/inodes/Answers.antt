@@ -1,8 +1,7 @@
-use Rattle.std.proofs.Common.{◌≡◌, ◌∙◌, List, take, map, length, sym, ap, subst, arith}
+use Rattle.std.proofs.Common.{◌≡◌, ◌∙◌, take, map, length, ap, subst, arith}
 use Rattle.std.specs.Option.{IfSome}
 use Rattle.std.proofs.Math.Seq.{take-length}
 use Rattle.flat_model.specs.Volume.{RunSub}
-use Rattle.flat_sub.specs.View.{sub_view}
 use Rattle.flat_volume.specs.Building.{inos_of}
 use Rattle.flat_volume.proofs.Each.{ino_of, inos_rising}
 use Rattle.flat_volume.proofs.volume.FlatVolume.inodes.Goals as goal

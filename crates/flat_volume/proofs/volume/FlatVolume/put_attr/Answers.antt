@@ -1,10 +1,8 @@
-use Rattle.std.proofs.Common.{◌≡◌, ℕ, ◌∙◌, ap, sym, Some, None}
-use Rattle.std.specs.Option.{option_map, is_some}
+use Rattle.std.proofs.Common.{◌≡◌, ℕ, ◌∙◌, ap, sym, Some}
+use Rattle.std.specs.Option.{is_some}
 use Rattle.std.specs.FinMap.{get}
 use Rattle.std.proofs.lemmas.Bool.{true≢false}
-use Rattle.flat_model.specs.Records.{InodeRecord, kind_of}
 use Rattle.flat_model.specs.Volume.{RunSub, RunVolume}
-use Rattle.flat_model.proofs.Maps.{some_none}
 use Rattle.flat_sub.specs.declared.sub.FlatSub.{FlatSub}
 use Rattle.flat_sub.specs.View.{sub_view}
 use Rattle.flat_volume.specs.Building.{at_sub, at_inode, record_in, with_attribute}

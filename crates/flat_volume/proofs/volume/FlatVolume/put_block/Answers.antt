@@ -1,8 +1,7 @@
-use Rattle.std.proofs.Common.{◌≡◌, ℕ, ◌∙◌, ap, sym, Some, None}
-use Rattle.std.specs.Option.{option_map, is_some}
+use Rattle.std.proofs.Common.{◌≡◌, ℕ, ◌∙◌, ap, sym, Some}
+use Rattle.std.specs.Option.{option_map}
 use Rattle.std.specs.FinMap.{get}
-use Rattle.std.proofs.lemmas.Bool.{true≢false}
-use Rattle.flat_model.specs.Records.{InodeRecord, kind_of}
+use Rattle.flat_model.specs.Records.{kind_of}
 use Rattle.flat_model.specs.Volume.{RunSub, RunVolume}
 use Rattle.flat_model.proofs.Maps.{some_none}
 use Rattle.flat_sub.specs.declared.sub.FlatSub.{FlatSub}
