@@ -1,5 +1,5 @@
 -- Entries of a hash, written one behind the other.
-use Rattle.std.proofs.Common.{◌≡◌, ◌≢◌, ◌<◌, ◌≤◌, ◌+◌, ◌++◌, ℕ, suc, Bool, true, false, cond, List, [], ◌∷◌, length, take, drop, get_or, filter, map, flat_map, sum_by, nat_eq, refl, sym, ap, subst, ◌∙◌, arith, add-one, length-append, append_assoc, append-nil}
+use Rattle.std.proofs.Common.{◌≡◌, ◌≢◌, ◌<◌, ◌≤◌, ◌+◌, ◌++◌, ℕ, Bool, true, cond, List, [], ◌∷◌, length, take, drop, get_or, filter, map, flat_map, sum_by, refl, sym, ap, ◌∙◌, arith, add-one, length-append, append_assoc, append-nil}
 use Rattle.std.proofs.lemmas.Bool.{eq-eqb, ne_eqb}
 use Rattle.std.proofs.lemmas.List.{get_or_default, length-take-le}
 use Rattle.std.proofs.lemmas.List.Sums.{sum_by-cons}
@@ -9,7 +9,7 @@ use Rattle.flat_model.specs.Lengths.{entry_length}
 use Rattle.flat_model.specs.declared.view.NameAt.{NameAt}
 use Rattle.flat_model.specs.Names.{FlatName}
 use Rattle.flat_sub.specs.View.{name_view, names_view}
-use Rattle.flat_sub.proofs.Placed.{drop_view, drop_view_end}
+use Rattle.flat_sub.proofs.Placed.{drop_view}
 use Rattle.one_leaf.specs.LeafItems.{written_entry, has_hash}
 
 -- the name at a place, whatever its mark, and those behind it

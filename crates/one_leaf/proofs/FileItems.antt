@@ -1,11 +1,10 @@
 -- Items of inodes, as they are written one after another.
-use Rattle.std.proofs.Common.{◌≡◌, ◌≢◌, ◌<◌, ◌≤◌, ◌+◌, ◌-◌, ◌*◌, ◌^◌, ◌++◌, ℕ, suc, zero, Bool, true, false, cond, List, [], ◌∷◌, length, take, drop, get_or, filter, map, sum_by, nat_eq, nat_lt, All, Contains, Some, refl, sym, ap, subst, ◌∙◌, arith, add-one, length-append, append-nil}
+use Rattle.std.proofs.Common.{◌≡◌, ◌≢◌, ◌<◌, ◌≤◌, ◌+◌, ◌-◌, ◌*◌, ◌^◌, ◌++◌, ℕ, suc, zero, Bool, true, cond, List, [], ◌∷◌, length, take, drop, get_or, filter, map, All, Contains, Some, refl, sym, ap, subst, ◌∙◌, arith, append-nil}
 use Rattle.std.proofs.lemmas.Bool.{eq-eqb, ne_eqb, lt-ltb, le-ltb}
 use Rattle.std.proofs.lemmas.List.Elements.{All-nil, All-cons, All-append}
 use Rattle.std.proofs.lemmas.List.{take_all, drop-drop, drop-map, take_rest, length-map}
-use Rattle.std.proofs.lemmas.List.Sums.{sum_by-cons}
 use Rattle.std.proofs.Math.Seq.{take-add}
-use Rattle.std.specs.FinMap.{get, entries, len-entries}
+use Rattle.std.specs.FinMap.{get, len-entries}
 use Rattle.std.specs.Ordering.{nat_cmp}
 use Rattle.blk_base.specs.declared.key.Addr.{Addr}
 use Rattle.blk_base.specs.Keys.{extent_data}
@@ -13,7 +12,7 @@ use Rattle.blk_base.specs.Extents.{regular_bytes}
 use Rattle.blk_base.specs.Leaf.{Item}
 use Rattle.blk_base.specs.Items.{InodeValue}
 use Rattle.flat_model.specs.Names.{FlatName, links_of, names_of, leads_to, entries_of, stands_in}
-use Rattle.flat_model.specs.Records.{InodeRecord, FileRecord, DirRecord, FileInode, DirInode, LinkInode}
+use Rattle.flat_model.specs.Records.{InodeRecord, DirRecord, FileInode, DirInode, LinkInode}
 use Rattle.flat_model.specs.Operations.{file_there}
 use Rattle.flat_model.specs.Volume.{Subvolume}
 use Rattle.flat_model.specs.Coherent.{IsCoherent}

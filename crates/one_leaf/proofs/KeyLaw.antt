@@ -1,12 +1,11 @@
 -- Items are those of a subvolume that stands in one leaf exactly where they have its keys and each is asked for.
-use Rattle.std.proofs.Common.{◌≡◌, ◌≢◌, ◌<◌, ◌≤◌, ◌+◌, ◌*◌, ◌/◌, ◌↔◌, ℕ, List, [], ◌∷◌, map, All, Contains, Option, Some, None, refl, sym, ap, subst, ◌∙◌, arith, inl, inr}
+use Rattle.std.proofs.Common.{◌≡◌, ◌<◌, ◌≤◌, ◌+◌, ◌↔◌, ℕ, List, All, Contains, Some, refl, sym, ap, subst, ◌∙◌, arith, inl, inr}
 use Rattle.std.proofs.lemmas.Bool.{cases_eq}
 use Rattle.std.proofs.lemmas.List.Elements.{All-contains, All-weaker, All-contains_itself}
 use Rattle.std.specs.FinMap.{get}
 use Rattle.blk_base.specs.declared.key.Key.{Key}
-use Rattle.blk_base.specs.Keys.{inode_item, inode_ref, inode_extref, xattr_item, dir_item, dir_index, extent_data}
+use Rattle.blk_base.specs.Keys.{inode_item, inode_ref, inode_extref, dir_item, dir_index, extent_data}
 use Rattle.blk_base.specs.Leaf.{Item}
-use Rattle.blk_base.specs.Extents.{Regular, IsExtent}
 use Rattle.leaf_view.specs.Search.{keys_of}
 use Rattle.flat_model.specs.Records.{InodeRecord, FileRecord, LinkRecord, FileInode, DirInode, LinkInode}
 use Rattle.flat_model.specs.Volume.{Subvolume}
@@ -19,7 +18,7 @@ use Rattle.volume_image.proofs.Asked.{asked_extent}
 use Rattle.one_leaf.specs.OneLeaf.{IsSmallSub}
 use Rattle.one_leaf.specs.Keys.{leaf_keys}
 use Rattle.one_leaf.proofs.RisingKeys.{same_keys, items_rise_keys}
-use Rattle.one_leaf.proofs.SmallSubs.{FewBlocks, NoBlock, OneBlock, root_dir, small_file}
+use Rattle.one_leaf.proofs.SmallSubs.{root_dir, small_file}
 use Rattle.one_leaf.proofs.Membership.{IsLeafKey, InodeKey, BlockKey, leaf_key_is, leaf_key_in, leaf_key_has, asked_key, ref_key, extref_key, attribute_key, hash_key, index_key, extent_key}
 use Rattle.one_leaf.proofs.KeysRising.{leaf_keys_rise}
 
@@ -34,11 +33,11 @@ module _ (sub : Subvolume) (coherent : IsCoherent sub) (small : IsSmallSub sub) 
   items_have_leaf_keys rise are =
       same_keys (keys_of items) (leaf_keys sub) (items_rise_keys items rise) (leaf_keys_rise sub coherent small)
       (λ key c.
-        let item = in_map (λ (i : Item). i.0) items key c in
-        leaf_key_in sub coherent small key (subst (IsLeafKey sub) item.2 (asked_key sub coherent small blocks item.0.0 item.0.1 (are.only item.0.0 item.0.1 item.1))))
+      let item = in_map (λ (i : Item). i.0) items key c in
+      leaf_key_in sub coherent small key (subst (IsLeafKey sub) item.2 (asked_key sub coherent small blocks item.0.0 item.0.1 (are.only item.0.0 item.0.1 item.1))))
       (λ key c.
-        let has = leaf_key_has sub coherent small items blocks are key (leaf_key_is sub coherent small key c) in
-        map_in (λ (i : Item). i.0) items (key, has.0) has.1)
+      let has = leaf_key_has sub coherent small items blocks are key (leaf_key_is sub coherent small key c) in
+      map_in (λ (i : Item). i.0) items (key, has.0) has.1)
 
   module _ (keys : keys_of items ≡ leaf_keys sub) (all : All Asked items) where
     only : (key : Key) (bytes : List ℕ) → Contains items (key, bytes) → IsAsked sub blocks key bytes

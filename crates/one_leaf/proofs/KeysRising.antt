@@ -1,6 +1,6 @@
 -- The keys of a subvolume that stands in one leaf rise.
-use Rattle.std.proofs.Common.{◌≡◌, ◌≢◌, ◌<◌, ◌⊎◌, ◌++◌, ℕ, Bool, true, false, cond, is_some, List, [], ◌∷◌, map, flat_map, Contains, Option, Some, None, Ordering, Less, Equal, Greater, nat_cmp, refl, sym, ap, subst, ◌∙◌, arith, inl, inr}
-use Rattle.std.proofs.lemmas.Bool.{cases_eq, cases_order, ne_eqb, eq-eqb, le-ltb, lt-ltb}
+use Rattle.std.proofs.Common.{◌≡◌, ◌≢◌, ◌<◌, ◌++◌, ℕ, Bool, true, false, cond, is_some, List, [], ◌∷◌, map, flat_map, Contains, Some, Ordering, Less, Equal, Greater, nat_cmp, refl, sym, ap, subst, ◌∙◌, arith, inl, inr}
+use Rattle.std.proofs.lemmas.Bool.{cases_eq, cases_order, ne_eqb, eq-eqb, le-ltb}
 use Rattle.std.proofs.lemmas.Bool.Decides.{nat_tests}
 use Rattle.std.proofs.lemmas.List.Elements.{Contains-append_cases}
 use Rattle.std.specs.Ordering.{match_ordering, ordering_then}
@@ -130,11 +130,11 @@ module _ (sub : Subvolume) (coherent : IsCoherent sub) (small : IsSmallSub sub) 
       (rise_map Lower KeyBelow (λ (hash : ℕ). make_key 256 dir_item hash) (λ a b h. below_offset (make_key 256 dir_item a) (make_key 256 dir_item b) refl refl h) (hashes_of sub.names) (hashes_rise sub.names))
       (rise_map ByIndex KeyBelow (λ (name : FlatName). make_key 256 dir_index name.index) (λ a b h. below_offset (make_key 256 dir_index a.index) (make_key 256 dir_index b.index) refl refl h) sub.names indexes_rise)
       (λ x y c d.
-        let one = hashed_is x c in
-        let two = indexed_is y d in
-        let k = one.1 in
-        let l = two.1 in
-        below_kind x y (one.0 ∙ sym two.0) (omega arith))
+      let one = hashed_is x c in
+      let two = indexed_is y d in
+      let k = one.1 in
+      let l = two.1 in
+      below_kind x y (one.0 ∙ sym two.0) (omega arith))
 
   root_keys_rise : KeysRise (root_keys sub)
   root_keys_rise = (
@@ -189,11 +189,11 @@ module _ (sub : Subvolume) (coherent : IsCoherent sub) (small : IsSmallSub sub) 
           λ y c. let is = behind_is named.0 named.1 named.3 y c in below_kind (make_key ino inode_item 0) y (sym is.0) is.1,
           subst (λ (l : List FlatName). KeysRise (map name_key l ++ block_keys ino inode)) (sym named.1) (
             λ y c.
-              let block = block_key_is ino inode y c in
-              let parts = name_key_is named.0 in
-              let kind = block.1 in
-              let low = parts.2 in
-              below_kind (name_key named.0) y (parts.0 ∙ named.3 ∙ sym block.0) (omega arith),
+                let block = block_key_is ino inode y c in
+                let parts = name_key_is named.0 in
+                let kind = block.1 in
+                let low = parts.2 in
+                below_kind (name_key named.0) y (parts.0 ∙ named.3 ∙ sym block.0) (omega arith),
             block_keys_rise ino inode,
           ),
         )
@@ -230,11 +230,11 @@ module _ (sub : Subvolume) (coherent : IsCoherent sub) (small : IsSmallSub sub) 
       (file_keys_rise e here)
       (files_rise es rise.1 (λ f c. each f (contains_tail e es f c)))
       (λ x y c d.
-        let later = in_flat_map (file_keys sub.names) es y d in
-        let one = (file_object e x here c).0 in
-        let two = (file_object later.0 y (each later.0 (contains_tail e es later.0 later.1)) later.2).0 in
-        let below = rise.0 later.0 later.1 in
-        below_object x y (omega (arith, one, two, below)))
+      let later = in_flat_map (file_keys sub.names) es y d in
+      let one = (file_object e x here c).0 in
+      let two = (file_object later.0 y (each later.0 (contains_tail e es later.0 later.1)) later.2).0 in
+      let below = rise.0 later.0 later.1 in
+      below_object x y (omega (arith, one, two, below)))
 
   pub leaf_keys_rise : KeysRise (leaf_keys sub)
   leaf_keys_rise =
@@ -242,9 +242,9 @@ module _ (sub : Subvolume) (coherent : IsCoherent sub) (small : IsSmallSub sub) 
       root_keys_rise
       (files_rise (entries sub.inodes) (entries_rise sub.inodes) (λ entry c. in_entry sub.inodes entry.0 entry.1 c))
       (λ x y c d.
-        let entry = in_flat_map (file_keys sub.names) (entries sub.inodes) y d in
-        let one = root_object x c in
-        let two = file_object entry.0 y (in_entry sub.inodes entry.0.0 entry.0.1 entry.1) entry.2 in
-        let same = two.0 in
-        let above = two.1 in
-        below_object x y (omega (arith, one, same, above)))
+      let entry = in_flat_map (file_keys sub.names) (entries sub.inodes) y d in
+      let one = root_object x c in
+      let two = file_object entry.0 y (in_entry sub.inodes entry.0.0 entry.0.1 entry.1) entry.2 in
+      let same = two.0 in
+      let above = two.1 in
+      below_object x y (omega (arith, one, same, above)))

@@ -1,7 +1,6 @@
 -- The items of a subvolume that stands in one leaf take as many bytes as its records and names say.
-use Rattle.std.proofs.Common.{◌≡◌, ◌≢◌, ◌<◌, ◌≤◌, ◌+◌, ◌*◌, ◌&&◌, ◌++◌, not, ℕ, Bool, true, false, cond, List, [], ◌∷◌, length, filter, map, flat_map, sum_by, Contains, Option, Some, None, IsPermutation, nat_eq, is_some, refl, sym, ap, subst, ◌∙◌, arith, inl, inr, length-append}
-use Rattle.std.proofs.lemmas.Bool.{cases_eq, eqb-true, eq-eqb, ne_eqb, and_parts, not_from_false}
-use Rattle.std.proofs.lemmas.List.{length-map}
+use Rattle.std.proofs.Common.{◌≡◌, ◌≢◌, ◌+◌, ◌*◌, ◌&&◌, ◌++◌, not, ℕ, Bool, true, false, cond, List, [], ◌∷◌, length, filter, map, flat_map, sum_by, Contains, Some, nat_eq, refl, sym, ap, subst, ◌∙◌, arith, inl, inr, length-append}
+use Rattle.std.proofs.lemmas.Bool.{cases_eq, eqb-true, eq-eqb, ne_eqb, and_parts}
 use Rattle.std.proofs.lemmas.List.Sums.{sum_by-cons, sum_by-append}
 use Rattle.std.proofs.lemmas.List.Sorted.{sum_by-IsPermutation}
 use Rattle.std.specs.FinMap.{get, entries}
@@ -16,7 +15,7 @@ use Rattle.flat_model.specs.Records.{InodeRecord, FileInode, DirInode, LinkInode
 use Rattle.flat_model.specs.Lengths.{ref_length, extref_length, entry_length, ref_item_length, extref_item_length, dir_item_length}
 use Rattle.flat_model.specs.Volume.{Subvolume}
 use Rattle.flat_model.specs.Coherent.{IsCoherent}
-use Rattle.flat_model.proofs.Lists.{contains_head, contains_tail, contains_none, contains_cases}
+use Rattle.flat_model.proofs.Lists.{contains_head}
 use Rattle.volume_image.specs.Tree.{ItemsRise}
 use Rattle.volume_image.specs.Subvolume.{Data, AreItemsOf, IsAsked, InodeAsked, RefsAsked, ExtRefsAsked, AttributesAsked, HashedAsked, IndexedAsked, ExtentAsked, HasEntries, IsExtentOf, make_key, indexed_asked, entry_of, without_transid}
 use Rattle.volume_image.proofs.Members.{in_filter, map_in}
@@ -24,12 +23,12 @@ use Rattle.volume_image.proofs.ItemLengths.{ref_item_has_length, own_item_has_le
 use Rattle.one_leaf.specs.OneLeaf.{IsSmallSub, leaf_bytes}
 use Rattle.one_leaf.specs.Keys.{hashes_of, name_key, root_keys, has_block, block_keys, file_keys, leaf_keys}
 use Rattle.one_leaf.specs.LeafBytes.{name_bytes, file_bytes, bytes_of_leaf}
-use Rattle.one_leaf.proofs.RisingKeys.{Rise, rise_map}
+use Rattle.one_leaf.proofs.RisingKeys.{rise_map}
 use Rattle.one_leaf.proofs.SmallSubs.{ByNumber, entries_rise, entry_in, in_entry, in_root, not_root, one_name, small_file, root_dir}
 use Rattle.one_leaf.proofs.Membership.{own_keys, file_keys_are, attribute_key, hash_in, asked_some}
 use Rattle.one_leaf.proofs.KeysRising.{Lower, ByIndex, hashes_rise, indexes_rise}
 use Rattle.one_leaf.proofs.KeyLaw.{items_have_leaf_keys}
-use Rattle.one_leaf.proofs.Sums.{sum_same, sum_added, sum_fixed, sum_none, sum_mapped, sum_flat, filter_same, filter_twice, group_sum}
+use Rattle.one_leaf.proofs.Sums.{sum_same, sum_added, sum_fixed, sum_mapped, sum_flat, filter_same, filter_twice, group_sum}
 
 -- ---- entries
 
@@ -127,8 +126,8 @@ module _ (sub : Subvolume) (coherent : IsCoherent sub) (small : IsSmallSub sub) 
       sum_mapped (λ (hash : ℕ). make_key 256 dir_item hash) (key_bytes sub) hashes
       ∙ sum_same (λ hash. key_bytes sub (make_key 256 dir_item hash)) (λ hash. 25 + by_hash hash) hashes
       (λ hash c. ap (λ (l : List FlatName). 25 + sum_by entry_length l)
-        (filter_same (λ name. nat_eq name.dir 256 && nat_eq (name_hash_of name.bytes) hash) (λ name. nat_eq (name_hash_of name.bytes) hash) sub.names
-        (λ name d. ap (λ (b : Bool). b && nat_eq (name_hash_of name.bytes) hash) (eq-eqb name.dir 256 (in_root sub coherent small name d)))))
+      (filter_same (λ name. nat_eq name.dir 256 && nat_eq (name_hash_of name.bytes) hash) (λ name. nat_eq (name_hash_of name.bytes) hash) sub.names
+      (λ name d. ap (λ (b : Bool). b && nat_eq (name_hash_of name.bytes) hash) (eq-eqb name.dir 256 (in_root sub coherent small name d)))))
       ∙ sum_added (λ hash. 25) by_hash hashes
       ∙ (λ i. sum_fixed 25 hashes i + group_sum (λ (name : FlatName). name_hash_of name.bytes) entry_length hashes (hashes_rise sub.names) sub.names (hash_in sub.names) i)
 
@@ -140,8 +139,8 @@ module _ (sub : Subvolume) (coherent : IsCoherent sub) (small : IsSmallSub sub) 
       sum_mapped (λ (name : FlatName). make_key 256 dir_index name.index) (key_bytes sub) sub.names
       ∙ sum_same (λ (name : FlatName). key_bytes sub (make_key 256 dir_index name.index)) (λ name. 25 + by_index name.index) sub.names
       (λ name c. ap (λ (l : List FlatName). 25 + sum_by entry_length l)
-        (filter_same (λ other. nat_eq other.dir 256 && nat_eq other.index name.index) (λ other. nat_eq other.index name.index) sub.names
-        (λ other d. ap (λ (b : Bool). b && nat_eq other.index name.index) (eq-eqb other.dir 256 (in_root sub coherent small other d)))))
+      (filter_same (λ other. nat_eq other.dir 256 && nat_eq other.index name.index) (λ other. nat_eq other.index name.index) sub.names
+      (λ other d. ap (λ (b : Bool). b && nat_eq other.index name.index) (eq-eqb other.dir 256 (in_root sub coherent small other d)))))
       ∙ sum_added (λ name. 25) (λ (name : FlatName). by_index name.index) sub.names
       ∙ ap (λ n. sum_by (λ (name : FlatName). 25) sub.names + n)
       (sym (sum_mapped (λ (name : FlatName). name.index) by_index sub.names)

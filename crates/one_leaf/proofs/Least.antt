@@ -1,12 +1,12 @@
 -- The least hash from a bound on.
-use Rattle.std.proofs.Common.{◌≡◌, ◌≢◌, ◌<◌, ◌≤◌, ◌+◌, ◌&&◌, ◌⊎◌, ℕ, suc, Bool, true, false, cond, List, [], ◌∷◌, length, filter, take, get_or, fold, Contains, Option, Some, None, Ordering, Less, Equal, Greater, nat_cmp, nat_le, nat_lt, refl, sym, ap, subst, ◌∙◌, arith, inl, inr}
+use Rattle.std.proofs.Common.{◌≡◌, ◌<◌, ◌≤◌, ◌+◌, ◌&&◌, ◌⊎◌, ℕ, Bool, true, false, cond, List, [], ◌∷◌, length, filter, fold, Contains, Option, Some, None, Ordering, Less, Equal, Greater, nat_cmp, nat_le, nat_lt, refl, sym, ap, subst, ◌∙◌, arith, inl, inr}
 use Rattle.std.proofs.lemmas.Bool.{leb-true, leb-false, le-leb, lt-leb, lt-ltb, le-ltb, cases_lt}
 use Rattle.std.specs.Ordering.{match_ordering}
 use Rattle.std.specs.FinMap.{nat_cmp-IsAntisymmetric}
 use Rattle.blk_base.specs.Crc.{name_hash_of}
 use Rattle.flat_model.specs.declared.view.NameAt.{NameAt}
-use Rattle.flat_model.proofs.Lists.{contains_head, contains_tail, contains_none, contains_cases, filter_contains}
-use Rattle.flat_sub.specs.View.{name_view, names_view}
+use Rattle.flat_model.proofs.Lists.{contains_head, contains_tail, contains_cases, filter_contains}
+use Rattle.flat_sub.specs.View.{names_view}
 use Rattle.one_leaf.specs.Keys.{insert_hash, hashes_of}
 use Rattle.one_leaf.specs.Putting.{lower_of, first_of}
 use Rattle.one_leaf.proofs.RisingKeys.{Rise}

@@ -1,16 +1,15 @@
 -- Sums in loops, and what holds of each inode.
-use Rattle.std.proofs.Common.{◌≡◌, ◌≢◌, ◌<◌, ◌≤◌, ◌+◌, ◌*◌, ◌↔◌, ◌||◌, ◌⊎◌, ℕ, zero, suc, Bool, true, false, IsTrue, cond, List, [], ◌∷◌, length, drop, get_or, sum_by, nat_eq, nat_cmp, All, Contains, Option, Some, None, Ordering, Less, Equal, Greater, refl, sym, ap, subst, ◌∙◌, arith, inl, inr, add-one}
+use Rattle.std.proofs.Common.{◌≡◌, ◌≢◌, ◌<◌, ◌≤◌, ◌+◌, ◌*◌, ◌↔◌, ◌||◌, ◌⊎◌, ℕ, zero, suc, Bool, true, false, IsTrue, cond, List, [], ◌∷◌, length, drop, get_or, sum_by, nat_eq, nat_cmp, Contains, Some, Ordering, Less, Equal, Greater, refl, sym, ap, subst, ◌∙◌, arith, inl, inr, add-one}
 use Rattle.std.proofs.lemmas.Bool.{true≢false, or_right, eqb-true, eq-eqb}
 use Rattle.std.proofs.lemmas.List.Elements.{All-contains, All-from_all_within, AllWithin-more, at_read, Contains-get_or}
 use Rattle.std.proofs.lemmas.List.Sums.{sum_by-cons}
 use Rattle.std.specs.List.{AllWithin, list_any}
 use Rattle.std.specs.Ordering.{match_ordering}
 use Rattle.std.specs.Cmp.{nat_cmp_total}
-use Rattle.std.specs.FinMap.{FinMap, get, len, entries, from_entries, is_sorted, empty, len-entries, empty_of_len, nat_cmp-IsAntisymmetric}
+use Rattle.std.specs.FinMap.{get, entries, from_entries, is_sorted, empty, len-entries, empty_of_len, nat_cmp-IsAntisymmetric}
 use Rattle.blk_base.specs.Crc.{name_hash_of}
 use Rattle.flat_model.specs.declared.view.NameAt.{NameAt}
-use Rattle.flat_model.specs.declared.view.Kind.{Kind}
-use Rattle.flat_model.specs.declared.view.Kind.TheVariants.{File, Dir, Link}
+use Rattle.flat_model.specs.declared.view.Kind.TheVariants.{File}
 use Rattle.flat_model.specs.Names.{FlatName, links_of}
 use Rattle.flat_model.specs.Records.{Attributes, InodeRecord, FileRecord, FileInode, DirInode, LinkInode, kind_of, attributes_of}
 use Rattle.flat_model.specs.Operations.{file_there}
@@ -153,7 +152,7 @@ any_there hash [] nears same any = absurd (true≢false (sym any))
 any_there hash (at ∷ ats) [] same any = absurd (omega arith)
 any_there hash (at ∷ ats) (near ∷ nears) same any = elim (any_cases (at_hash hash at) (list_any (at_hash hash) ats) any) [
   | inl here ↦ subst (λ (h : ℕ). Contains (hashes_of (names_view (at ∷ ats) (near ∷ nears))) h) (eqb-true (name_hash_of at.name) hash here)
-    (hash_in (names_view (at ∷ ats) (near ∷ nears)) (name_view at near) (contains_head (name_view at near) (names_view ats nears)))
+      (hash_in (names_view (at ∷ ats) (near ∷ nears)) (name_view at near) (contains_head (name_view at near) (names_view ats nears)))
   | inr later ↦ insert_hash_keeps (name_hash_of at.name) (hashes_of (names_view ats nears)) hash (any_there hash ats nears (omega arith) later)
 ]
 

@@ -1,29 +1,27 @@
 -- Which keys a subvolume has that stands in one leaf: those in the list, those that its items have, and those that are asked for.
-use Rattle.std.proofs.Common.{◌≡◌, ◌≢◌, ◌<◌, ◌≤◌, ◌+◌, ◌*◌, ◌/◌, ◌%◌, ◌⊎◌, ◌&&◌, ◌++◌, ℕ, zero, suc, Bool, true, false, not, cond, is_some, List, [], ◌∷◌, length, filter, map, flat_map, Contains, Option, Some, None, Ordering, Less, Equal, Greater, nat_cmp, nat_eq, IsPermutation, refl, sym, ap, subst, ◌∙◌, arith, inl, inr}
+use Rattle.std.proofs.Common.{◌≡◌, ◌≢◌, ◌≤◌, ◌+◌, ◌/◌, ◌⊎◌, ◌&&◌, ◌++◌, ℕ, Bool, true, false, not, cond, is_some, List, [], ◌∷◌, length, filter, map, flat_map, Contains, Option, Some, None, Ordering, Less, Equal, Greater, nat_cmp, nat_eq, IsPermutation, refl, sym, ap, subst, ◌∙◌, arith, inl, inr}
 use Rattle.std.proofs.lemmas.Bool.{cases_eq, eqb-true, eq-eqb, ne_eqb, and_parts, and_from, not-true, not_from_false}
 use Rattle.std.proofs.lemmas.List.Elements.{Contains-append_left, Contains-append_right, Contains-append_cases}
 use Rattle.std.proofs.lemmas.List.Sorted.{length_permutation}
 use Rattle.std.specs.Ordering.{match_ordering}
-use Rattle.std.specs.FinMap.{get, entries, entries_sorted, empty, nat_cmp-IsAntisymmetric}
+use Rattle.std.specs.FinMap.{get, entries, empty, nat_cmp-IsAntisymmetric}
 use Rattle.blk_base.specs.declared.key.Key.{Key}
 use Rattle.blk_base.specs.Crc.{name_hash_of, extref_hash_of}
 use Rattle.blk_base.specs.Keys.{inode_item, inode_ref, inode_extref, xattr_item, dir_item, dir_index, extent_data}
 use Rattle.blk_base.specs.Leaf.{Item}
-use Rattle.blk_base.specs.Entries.{RefValue, ExtRefValue, EntryValue, dots}
-use Rattle.blk_base.specs.Extents.{Regular, IsExtent}
+use Rattle.blk_base.specs.Entries.{RefValue, EntryValue, dots}
 use Rattle.flat_model.specs.Names.{FlatName, leads_to, names_of}
-use Rattle.flat_model.specs.Records.{InodeRecord, FileRecord, LinkRecord, FileInode, DirInode, LinkInode, attributes_of}
+use Rattle.flat_model.specs.Records.{InodeRecord, FileRecord, FileInode, DirInode, LinkInode, attributes_of}
 use Rattle.flat_model.specs.Operations.{file_there}
 use Rattle.flat_model.specs.Volume.{Subvolume}
 use Rattle.flat_model.specs.Coherent.{IsCoherent, KeepsBlockLimits}
 use Rattle.flat_model.proofs.Lists.{contains_head, contains_tail, contains_none, contains_cases}
-use Rattle.volume_image.specs.Subvolume.{Data, AreItemsOf, HasKey, CoversBlock, HasEntries, IsExtentOf, IsAsked, InodeAsked, RefsAsked, ExtRefsAsked, AttributesAsked, HashedAsked, IndexedAsked, ExtentAsked, make_key, own_refs, refs_asked, extrefs_asked, attributes_asked, attributes_there, attribute_entry, hashed_asked, indexed_asked, entry_of, ref_of, extref_of, without_transid}
+use Rattle.volume_image.specs.Subvolume.{Data, AreItemsOf, HasKey, HasEntries, IsExtentOf, IsAsked, InodeAsked, RefsAsked, ExtRefsAsked, AttributesAsked, HashedAsked, IndexedAsked, ExtentAsked, make_key, own_refs, refs_asked, extrefs_asked, attributes_asked, attributes_there, attribute_entry, hashed_asked, indexed_asked, entry_of, ref_of, extref_of, without_transid}
 use Rattle.volume_image.proofs.Lists.{entries_empty}
 use Rattle.volume_image.proofs.Members.{not_empty, has_some, in_filter, filter_in, in_map, map_in, flat_map_in}
-use Rattle.volume_image.proofs.Asked.{asked_extent}
-use Rattle.one_leaf.specs.OneLeaf.{IsSmallSub, IsSmallFile}
-use Rattle.one_leaf.specs.Keys.{insert_hash, hashes_of, name_key, root_keys, has_block, block_keys, file_keys, leaf_keys}
-use Rattle.one_leaf.proofs.SmallSubs.{FewBlocks, NoBlock, OneBlock, root_dir, small_file, in_root, not_root, leads_to_file, one_name, name_among, entry_in, in_entry, above_root}
+use Rattle.one_leaf.specs.OneLeaf.{IsSmallSub}
+use Rattle.one_leaf.specs.Keys.{insert_hash, hashes_of, name_key, root_keys, block_keys, file_keys, leaf_keys}
+use Rattle.one_leaf.proofs.SmallSubs.{root_dir, small_file, in_root, not_root, name_among, entry_in, in_entry}
 
 -- The key is one of those that the subvolume's items have.
 pub data IsLeafKey (sub : Subvolume) (key : Key) : Type 0 where

@@ -1,21 +1,19 @@
 -- What holds of a coherent subvolume whose inodes but the root directory are small files with one name each.
-use Rattle.std.proofs.Common.{◌≡◌, ◌≢◌, ◌<◌, ◌≤◌, ◌*◌, ◌⊎◌, ◌&&◌, ℕ, zero, suc, Bool, true, false, T, cond, is_lt, List, [], ◌∷◌, length, filter, map, Contains, Option, Some, None, Ordering, Less, Equal, Greater, nat_cmp, nat_eq, refl, sym, ap, subst, ◌∙◌, arith, inl, inr}
+use Rattle.std.proofs.Common.{◌≡◌, ◌≢◌, ◌<◌, ◌≤◌, ◌&&◌, ℕ, Bool, true, false, T, is_lt, List, [], ◌∷◌, length, Contains, Option, Some, None, Ordering, Less, Equal, Greater, nat_cmp, refl, sym, ap, subst, ◌∙◌, arith, inl, inr}
 use Rattle.std.proofs.lemmas.Bool.{cases_eq, eqb-true, eq-eqb}
 use Rattle.std.proofs.lemmas.Bool.Decides.{nat_tests}
 use Rattle.std.specs.Cmp.{nat_cmp_total}
-use Rattle.std.specs.FinMap.{FinMap, get, entries, entries_sorted, get-entries, nat_cmp-IsAntisymmetric, empty}
+use Rattle.std.specs.FinMap.{FinMap, get, entries, entries_sorted, get-entries, nat_cmp-IsAntisymmetric}
 use Rattle.std.specs.FinMap.Entries.{find, below_all, is_sorted}
 use Rattle.blk_base.specs.Entries.{file_entry}
-use Rattle.flat_model.specs.Names.{FlatName, leads_to, names_of, links_of}
+use Rattle.flat_model.specs.Names.{FlatName, leads_to, names_of}
 use Rattle.flat_model.specs.Records.{InodeRecord, FileRecord, DirRecord, FileInode, DirInode, LinkInode}
-use Rattle.flat_model.specs.Operations.{file_there}
 use Rattle.flat_model.specs.Volume.{Subvolume, is_dir_there}
 use Rattle.flat_model.specs.Coherent.{IsCoherent, KeepsFileLimits}
 use Rattle.flat_model.proofs.Lists.{contains_head, contains_tail, contains_none, contains_cases}
 use Rattle.volume_image.specs.Subvolume.{entry_kind_of}
 use Rattle.volume_image.proofs.Members.{in_filter, filter_in, get_in, in_get}
-use Rattle.one_leaf.specs.OneLeaf.{IsSmallFile, IsSmallSub}
-use Rattle.one_leaf.specs.Keys.{has_block}
+use Rattle.one_leaf.specs.OneLeaf.{IsSmallSub}
 use Rattle.one_leaf.proofs.RisingKeys.{Rise}
 
 -- ---- maps by numbers

@@ -1,8 +1,8 @@
 -- A volume's subvolumes as the code has them.
-use Rattle.std.proofs.Common.{◌≡◌, ◌≢◌, ◌≤◌, ◌↔◌, ◌&&◌, ℕ, suc, Bool, true, IsTrue, Contains, List, [], ◌∷◌, map, length, get_or, Some, T, nat_cmp, is_lt, leb, refl, sym, ap, subst, ◌∙◌, arith}
+use Rattle.std.proofs.Common.{◌≡◌, ◌↔◌, ◌&&◌, ℕ, suc, Bool, IsTrue, Contains, List, [], ◌∷◌, map, length, get_or, nat_cmp, is_lt, leb, refl, sym, ap, subst, ◌∙◌, arith}
 use Rattle.std.proofs.lemmas.Bool.{leb-true, le-leb}
 use Rattle.std.specs.Cmp.{nat_cmp_total}
-use Rattle.std.specs.FinMap.{get, entries, entries_sorted, is_sorted}
+use Rattle.std.specs.FinMap.{entries, entries_sorted, is_sorted}
 use Rattle.std.specs.FinMap.Entries.{below_all}
 use Rattle.flat_model.specs.Volume.{Subvolume, RunSub, RunVolume, volume_of}
 use Rattle.flat_model.specs.Coherent.{IsCoherent, IsCoherentVolume}

@@ -1,20 +1,20 @@
 -- The written items fit a leaf, whatever the addresses of the blocks are.
-use Rattle.std.proofs.Common.{◌≡◌, ◌<◌, ◌≤◌, ◌+◌, ◌-◌, ◌^◌, ◌++◌, ℕ, zero, suc, Bool, true, false, cond, List, [], ◌∷◌, length, drop, map, sum_by, slice_get, nat_eq, All, Some, refl, sym, ap, subst, ◌∙◌, arith, append_assoc}
+use Rattle.std.proofs.Common.{◌≡◌, ◌<◌, ◌≤◌, ◌+◌, ◌-◌, ◌^◌, ◌++◌, ℕ, Bool, true, false, cond, List, [], ◌∷◌, length, drop, map, sum_by, slice_get, nat_eq, Some, refl, sym, ap, subst, ◌∙◌, arith, append_assoc}
 use Rattle.std.proofs.lemmas.List.{length-map, length-drop}
 use Rattle.std.proofs.lemmas.List.Sums.{sum_by-cons, sum_by-append}
 use Rattle.std.specs.List.{range_with_len}
 use Rattle.std.specs.FinMap.{get, entries}
-use Rattle.blk_base.specs.Leaf.{Item, leaf_body_of}
+use Rattle.blk_base.specs.Leaf.{Item}
 use Rattle.blk_base.specs.Extents.{regular_bytes}
 use Rattle.leaf_edit.specs.declared.leaf_mut.LeafMut.{LeafMut}
-use Rattle.leaf_edit.specs.Editor.{items_of, lender_of}
+use Rattle.leaf_edit.specs.Editor.{items_of}
 use Rattle.leaf_view.specs.Search.{keys_of}
 use Rattle.flat_model.specs.Names.{FlatName, names_of}
 use Rattle.flat_model.specs.Records.{InodeRecord, DirRecord, DirInode}
 use Rattle.flat_model.specs.Volume.{Subvolume}
 use Rattle.flat_model.specs.Coherent.{IsCoherent}
 use Rattle.volume_image.specs.Tree.{ItemsRise}
-use Rattle.volume_image.specs.Subvolume.{Data, AreItemsOf, data_addresses}
+use Rattle.volume_image.specs.Subvolume.{Data}
 use Rattle.one_leaf.specs.OneLeaf.{IsSmallSub, leaf_bytes}
 use Rattle.one_leaf.specs.Keys.{hashes_of, has_block}
 use Rattle.one_leaf.specs.LeafBytes.{name_bytes, bytes_of_leaf}

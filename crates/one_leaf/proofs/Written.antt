@@ -1,43 +1,42 @@
 -- The items as they are written are those of the subvolume.
-use Rattle.std.proofs.Common.{◌≡◌, ◌≢◌, ◌<◌, ◌≤◌, ◌+◌, ◌-◌, ◌*◌, ◌/◌, ◌%◌, ◌^◌, ◌&&◌, ◌++◌, not, ℕ, zero, suc, Bool, true, false, cond, List, [], ◌∷◌, length, filter, map, flat_map, drop, sum_by, slice_get, All, Contains, Option, Some, None, IsPermutation, nat_eq, nat_lt, is_some, refl, sym, ap, subst, ◌∙◌, arith, inl, inr, length-append, append-nil, append_assoc}
+use Rattle.std.proofs.Common.{◌≡◌, ◌≢◌, ◌<◌, ◌≤◌, ◌+◌, ◌*◌, ◌^◌, ◌&&◌, ◌++◌, not, ℕ, zero, suc, Bool, true, false, cond, List, [], ◌∷◌, length, filter, map, flat_map, drop, sum_by, slice_get, All, Contains, Some, IsPermutation, nat_eq, nat_lt, is_some, refl, sym, ap, subst, ◌∙◌, arith, inl, inr, length-append, append-nil, append_assoc}
 use Rattle.std.proofs.lemmas.Bool.{cases_eq, eqb-true, eq-eqb, ne_eqb, and_parts}
-use Rattle.std.proofs.lemmas.List.{length-map, map-append, length-drop, drop_at}
-use Rattle.std.proofs.lemmas.List.Elements.{All-nil, All-cons, All-head, All-tail, All-append, All-map, All-weaker, All-contains_itself, All-drop}
+use Rattle.std.proofs.lemmas.List.{length-map, map-append, length-drop}
+use Rattle.std.proofs.lemmas.List.Elements.{All-nil, All-cons, All-head, All-append, All-map, All-weaker, All-contains_itself, All-drop}
 use Rattle.std.proofs.lemmas.List.Concat.{flat_map-append}
-use Rattle.std.proofs.lemmas.List.Sums.{sum_by-cons, sum_by-append}
+use Rattle.std.proofs.lemmas.List.Sums.{sum_by-cons}
 use Rattle.std.proofs.lemmas.List.Sorted.{IsPermutation-refl}
 use Rattle.std.specs.List.{AllByRecursion, range_with_len}
-use Rattle.std.specs.FinMap.{FinMap, get, len, entries, len-entries, get-empty}
+use Rattle.std.specs.FinMap.{get, len, entries, len-entries, get-empty}
 use Rattle.std.specs.Ordering.{nat_cmp}
 use Rattle.blk_base.specs.declared.key.Key.{Key}
 use Rattle.blk_base.specs.Crc.{name_hash_of, extref_hash_of}
 use Rattle.blk_base.specs.Name.{IsName}
-use Rattle.blk_base.specs.Keys.{KeyFits, inode_item, inode_ref, inode_extref, dir_item, dir_index, extent_data}
+use Rattle.blk_base.specs.Keys.{inode_item, inode_ref, inode_extref, dir_item, dir_index, extent_data}
 use Rattle.blk_base.specs.Leaf.{Item}
-use Rattle.blk_base.specs.Items.{InodeValue, IsInode, inode_bytes}
-use Rattle.blk_base.specs.Entries.{RefValue, ExtRefValue, EntryValue, EntryFits, IsRefs, IsExtRefs, IsEntries, IsEntryKind, IsRefName, ref_bytes, extref_bytes, entry_bytes, dots, file_entry}
+use Rattle.blk_base.specs.Items.{inode_bytes}
+use Rattle.blk_base.specs.Entries.{RefValue, EntryValue, EntryFits, IsEntries, IsEntryKind, ref_bytes, extref_bytes, entry_bytes, dots}
 use Rattle.blk_base.specs.Extents.{Regular, IsExtent, IsRun, regular_bytes}
 use Rattle.format_laws.specs.Items.{InodeFits, IsInode-from_read, inode_reads_back}
 use Rattle.item_laws.specs.ExtentLaws.{extent_from, regular_reads_back}
 use Rattle.leaf_view.specs.Search.{keys_of}
-use Rattle.flat_model.specs.Names.{FlatName, leads_to, names_of, links_of, entries_of, stands_in}
-use Rattle.flat_model.specs.Records.{InodeRecord, FileRecord, DirRecord, FileInode, DirInode, LinkInode}
+use Rattle.flat_model.specs.Names.{FlatName, leads_to, names_of, stands_in}
+use Rattle.flat_model.specs.Records.{InodeRecord, FileRecord, DirRecord, FileInode, DirInode}
 use Rattle.flat_model.specs.Operations.{file_there}
 use Rattle.flat_model.specs.Volume.{Subvolume}
 use Rattle.flat_model.specs.Coherent.{IsCoherent}
 use Rattle.flat_model.proofs.Lists.{contains_head, contains_tail, contains_none, contains_cases}
-use Rattle.volume_image.specs.Tree.{ItemsRise}
-use Rattle.volume_image.specs.Subvolume.{Data, AreItemsOf, IsAsked, InodeAsked, RefsAsked, ExtRefsAsked, HashedAsked, IndexedAsked, ExtentAsked, IsInodeOf, HasEntries, IsExtentOf, RunHolds, make_key, mode_of, size_of, own_refs, refs_asked, extrefs_asked, hashed_asked, indexed_asked, ref_of, extref_of, entry_of, without_transid, item_addresses, data_addresses}
+use Rattle.volume_image.specs.Subvolume.{Data, AreItemsOf, IsAsked, InodeAsked, RefsAsked, ExtRefsAsked, HashedAsked, IndexedAsked, ExtentAsked, IsExtentOf, RunHolds, make_key, refs_asked, extrefs_asked, hashed_asked, indexed_asked, ref_of, extref_of, entry_of, without_transid, item_addresses, data_addresses}
 use Rattle.volume_image.proofs.Lists.{entries_empty}
 use Rattle.volume_image.proofs.Members.{in_filter, filter_in, not_empty}
-use Rattle.one_leaf.specs.OneLeaf.{IsSmallSub, FitsLeaf, leaf_bytes}
+use Rattle.one_leaf.specs.OneLeaf.{IsSmallSub, FitsLeaf}
 use Rattle.one_leaf.specs.Keys.{hashes_of, name_key, root_keys, has_block, block_keys, file_keys, leaf_keys}
 use Rattle.one_leaf.specs.LeafBytes.{name_bytes, file_bytes, bytes_of_leaf}
 use Rattle.one_leaf.specs.LeafItems.{inode_value_of, written_inode, own_item, written_entry, has_hash, hashed_item, indexed_item, root_items, name_item, block_items, file_items, block_count, files_items, leaf_items, blocks_in}
 use Rattle.one_leaf.specs.Parts.{HasFirstAlone}
 use Rattle.one_leaf.proofs.RisingKeys.{Rise, rise_map, KeysRise, keys_rise_items}
-use Rattle.one_leaf.proofs.SmallSubs.{FewBlocks, NoBlock, OneBlock, few_blocks, entry_in, in_entry, in_root, not_root, one_name, small_file, root_dir, leads_by_entry}
-use Rattle.one_leaf.proofs.Membership.{own_keys, file_keys_are, in_hashes}
+use Rattle.one_leaf.proofs.SmallSubs.{FewBlocks, NoBlock, OneBlock, in_entry, in_root, one_name, small_file, root_dir, leads_by_entry}
+use Rattle.one_leaf.proofs.Membership.{own_keys, in_hashes}
 use Rattle.one_leaf.proofs.KeysRising.{ByIndex, indexes_rise, leaf_keys_rise}
 use Rattle.one_leaf.proofs.KeyLaw.{items_from_keys}
 use Rattle.one_leaf.proofs.Sums.{filter_same, filter_twice}
@@ -173,7 +172,7 @@ module _ (sub : Subvolume) (coherent : IsCoherent sub) (small : IsSmallSub sub) 
       ap (λ (l : List Key). make_key 256 inode_item 0 ∷ make_key 256 inode_ref 256 ∷ l)
       (map-append (λ (item : Item). item.0) (map (hashed_item sub.names generation) (hashes_of sub.names)) (map (indexed_item generation) sub.names)
       ∙ (λ i. keys_mapped (hashed_item sub.names generation) (λ (hash : ℕ). make_key 256 dir_item hash) (λ hash. refl) (hashes_of sub.names) i
-        ++ keys_mapped (indexed_item generation) (λ (name : FlatName). make_key 256 dir_index name.index) (λ name. refl) sub.names i))
+      ++ keys_mapped (indexed_item generation) (λ (name : FlatName). make_key 256 dir_index name.index) (λ name. refl) sub.names i))
 
   pub leaf_items_keys : (generation : ℕ) (root : InodeRecord) (addresses : List ℕ) → length (blocks_in (entries sub.inodes)) ≤ length addresses → keys_of (leaf_items sub generation root addresses) ≡ leaf_keys sub
   leaf_items_keys generation root addresses room =
@@ -189,12 +188,12 @@ module _ (sub : Subvolume) (coherent : IsCoherent sub) (small : IsSmallSub sub) 
   names_apart [] rise each = tt
   names_apart (name ∷ names) rise each = (
     λ other c same.
-      let here = each name (contains_head name names) in
-      let there = each other (contains_tail name names other c) in
-      let one = coherent.no_name_twice name other here there (in_root sub coherent small name here ∙ sym (in_root sub coherent small other there)) same in
-      let below = rise.0 other c in
-      let index = ap (λ (n : FlatName). n.index) one in
-      omega arith,
+        let here = each name (contains_head name names) in
+        let there = each other (contains_tail name names other c) in
+        let one = coherent.no_name_twice name other here there (in_root sub coherent small name here ∙ sym (in_root sub coherent small other there)) same in
+        let below = rise.0 other c in
+        let index = ap (λ (n : FlatName). n.index) one in
+        omega arith,
     names_apart names rise.1 (λ other c. each other (contains_tail name names other c)),
   )
 
@@ -203,8 +202,8 @@ module _ (sub : Subvolume) (coherent : IsCoherent sub) (small : IsSmallSub sub) 
       one_passes ByIndex (λ n below. omega arith) (λ other. nat_eq other.dir 256 && nat_eq other.index name.index) sub.names name (indexes_rise sub coherent small) c
       (λ i. eq-eqb name.dir 256 (in_root sub coherent small name c) i && eq-eqb name.index name.index refl i)
       (λ other d q.
-        let parts = and_parts _ _ q in
-        coherent.no_index_twice other name d c (eqb-true other.dir 256 parts.0 ∙ sym (in_root sub coherent small name c)) (eqb-true other.index name.index parts.1))
+      let parts = and_parts _ _ q in
+      coherent.no_index_twice other name d c (eqb-true other.dir 256 parts.0 ∙ sym (in_root sub coherent small name c)) (eqb-true other.index name.index parts.1))
 
   abbrev near_in_root : FlatName → Bool
   near_in_root name = name.near && (nat_eq name.ino 256 && nat_eq name.dir 256)
@@ -297,7 +296,7 @@ module _ (sub : Subvolume) (coherent : IsCoherent sub) (small : IsSmallSub sub) 
         HashedAsked refl (record {
           found = map (written_entry generation) names;
           spelled = entries_spelled dir_item names (λ e. omega arith) (not_empty first.0 names (filter_in (has_hash hash) sub.names first.0 first.1 (eq-eqb (name_hash_of first.0.bytes) hash first.2))) each
-          (rise_filter Apart (has_hash hash) sub.names (names_apart sub.names (indexes_rise sub coherent small) (λ name d. d))) (λ k. absurd (omega arith));
+              (rise_filter Apart (has_hash hash) sub.names (names_apart sub.names (indexes_rise sub coherent small) (λ name d. d))) (λ k. absurd (omega arith));
           same = subst (IsPermutation (map without_transid (map (written_entry generation) names))) same (IsPermutation-refl _);
         })
 

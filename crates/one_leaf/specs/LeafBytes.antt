@@ -1,5 +1,5 @@
 -- How many bytes of a leaf the items of a subvolume take that stands in one.
-use Rattle.std.specs.Prelude.{ℕ, ◌+◌, ◌*◌, List, length, nat_eq, if◌then◌else◌}
+use Rattle.std.specs.Prelude.{ℕ, ◌+◌, ◌*◌, length, nat_eq, if◌then◌else◌}
 use Rattle.std.specs.List.{sum_by}
 use Rattle.std.specs.FinMap.{entries}
 use Rattle.flat_model.specs.Names.{FlatName}

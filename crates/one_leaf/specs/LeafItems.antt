@@ -1,12 +1,12 @@
 -- The items of a subvolume that stands in one leaf, as they are written for a generation, with its blocks at given addresses.
 use Rattle.std.specs.Prelude.{ℕ, Bool, true, List, [], ◌∷◌, ◌++◌, map, filter, drop, length, nat_eq, Some, if◌then◌else◌}
 use Rattle.std.specs.List.{flat_map}
-use Rattle.std.specs.FinMap.{get, entries}
+use Rattle.std.specs.FinMap.{entries}
 use Rattle.blk_base.specs.Crc.{name_hash_of}
 use Rattle.blk_base.specs.Leaf.{Item}
 use Rattle.blk_base.specs.Keys.{inode_item, inode_ref, dir_item, dir_index, extent_data}
 use Rattle.blk_base.specs.Items.{InodeValue, inode_bytes}
-use Rattle.blk_base.specs.Entries.{RefValue, ref_bytes, extref_bytes, EntryValue, entry_bytes, dots, file_entry}
+use Rattle.blk_base.specs.Entries.{ref_bytes, extref_bytes, EntryValue, entry_bytes, dots, file_entry}
 use Rattle.blk_base.specs.Extents.{regular_bytes}
 use Rattle.flat_model.specs.Names.{FlatName, names_of}
 use Rattle.flat_model.specs.Records.{InodeRecord}
@@ -19,8 +19,12 @@ use Rattle.one_leaf.specs.Keys.{hashes_of, name_key, has_block}
 
 abbrev pub inode_value_of : Subvolume → ℕ → ℕ → InodeRecord → InodeValue
 inode_value_of sub generation ino inode = record {
-  generation = generation; transid = generation; size = size_of sub ino inode;
-  nbytes = nbytes_of inode; nlink = nlink_of sub ino inode; mode = mode_of inode;
+  generation = generation;
+  transid = generation;
+  size = size_of sub ino inode;
+  nbytes = nbytes_of inode;
+  nlink = nlink_of sub ino inode;
+  mode = mode_of inode;
 }
 
 -- the item of an inode ("INODE_ITEM")

@@ -1,6 +1,6 @@
 -- Whether a subvolume stands in one leaf, and its items, taken apart by its inodes.
-use Rattle.std.specs.Prelude.{◌≡◌, ◌≢◌, ◌≤◌, ℕ, Bool, List, [], Some, length, sum_by, nat_eq, nat_lt, if◌then◌else◌}
-use Rattle.std.specs.FinMap.{empty, entries}
+use Rattle.std.specs.Prelude.{◌≡◌, ◌≢◌, ◌≤◌, ℕ, List, [], length, sum_by, nat_eq, nat_lt, if◌then◌else◌}
+use Rattle.std.specs.FinMap.{empty}
 use Rattle.blk_base.specs.Leaf.{Item}
 use Rattle.flat_model.specs.Names.{FlatName, links_of}
 use Rattle.flat_model.specs.Records.{InodeRecord, attributes_of}

@@ -151,12 +151,7 @@ fn put_other(
 }
 
 /// Puts the items of all files behind the last item, with their blocks at the addresses in order.
-pub(crate) fn put_files(
-    leaf: &mut LeafMut<'_>,
-    sub: &FlatSub,
-    generation: u64,
-    addresses: &[Addr],
-)
+pub(crate) fn put_files(leaf: &mut LeafMut<'_>, sub: &FlatSub, generation: u64, addresses: &[Addr])
     requires kept { IsWellKept sub.now }
     requires coherent { IsCoherent (sub_view sub.now).sub }
     requires small { IsSmallSub (sub_view sub.now).sub }
@@ -167,13 +162,6 @@ pub(crate) fn put_files(
 {
     let mut next = 0;
     for entry in &sub.inodes {
-        next += put_other(
-            leaf,
-            sub,
-            generation,
-            entry.0,
-            &entry.1,
-            &addresses[next..],
-        );
+        next += put_other(leaf, sub, generation, entry.0, &entry.1, &addresses[next..]);
     }
 }

@@ -1,10 +1,10 @@
-use Rattle.std.proofs.Common.{◌≡◌, ◌<◌, ◌≤◌, ◌+◌, ◌∷◌, ℕ, Bool, cond, List, drop, length, get_or, refl, sym, ap, subst, ◌∙◌, arith, add-one}
+use Rattle.std.proofs.Common.{◌≡◌, ◌<◌, ◌+◌, ℕ, Bool, cond, List, drop, length, get_or, sym, ap, ◌∙◌, arith}
 use Rattle.std.proofs.lemmas.List.{take_rest}
 use Rattle.std.specs.List.{list_any}
 use Rattle.blk_base.specs.Crc.{name_hash_of}
 use Rattle.flat_model.specs.declared.view.NameAt.{NameAt}
 use Rattle.flat_model.specs.Names.{FlatName}
-use Rattle.flat_sub.specs.View.{name_view, names_view}
+use Rattle.flat_sub.specs.View.{names_view}
 use Rattle.flat_sub.proofs.Placed.{drop_view_end}
 use Rattle.one_leaf.specs.Keys.{hashes_of}
 use Rattle.one_leaf.proofs.Loops.{at_hash, hashes_drop}

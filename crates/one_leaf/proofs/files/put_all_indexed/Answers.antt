@@ -1,4 +1,4 @@
-use Rattle.std.proofs.Common.{◌≡◌, ◌<◌, ◌≤◌, ◌+◌, ℕ, true, List, [], ◌∷◌, drop, map, length, get_or, sym, ap, subst, ◌∙◌, arith}
+use Rattle.std.proofs.Common.{◌<◌, ◌+◌, true, List, [], ◌∷◌, drop, map, length, get_or, ap, subst, ◌∙◌, arith}
 use Rattle.blk_base.specs.Leaf.{Item}
 use Rattle.flat_model.specs.declared.view.NameAt.{NameAt}
 use Rattle.flat_model.specs.Names.{FlatName}

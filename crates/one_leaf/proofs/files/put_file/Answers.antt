@@ -1,4 +1,4 @@
-use Rattle.std.proofs.Common.{◌++◌, ◌∷◌, ℕ, List, [], map, sym, subst, append_assoc}
+use Rattle.std.proofs.Common.{◌++◌, ◌∷◌, List, [], map, sym, subst, append_assoc}
 use Rattle.blk_base.specs.Items.{InodeValue, inode_bytes}
 use Rattle.blk_base.specs.Keys.{inode_item}
 use Rattle.blk_base.specs.Leaf.{Item}

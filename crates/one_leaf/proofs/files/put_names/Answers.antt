@@ -1,5 +1,4 @@
-use Rattle.std.proofs.Common.{◌≡◌, ◌<◌, ◌≤◌, ◌+◌, ℕ, true, List, [], ◌∷◌, drop, map, length, get_or, sym, ap, subst, ◌∙◌, arith, add-one}
-use Rattle.blk_base.specs.Leaf.{Item}
+use Rattle.std.proofs.Common.{◌≡◌, ◌<◌, ◌+◌, true, List, [], ◌∷◌, drop, map, length, get_or, sym, ap, subst, ◌∙◌, arith, add-one}
 use Rattle.flat_model.specs.declared.view.NameAt.{NameAt}
 use Rattle.flat_model.specs.Names.{FlatName, names_of}
 use Rattle.flat_sub.specs.View.{name_view, names_view}

@@ -1,7 +1,6 @@
-use Rattle.std.proofs.Common.{◌≡◌, ℕ, List, length, get_or, refl, sym, ap, ◌∙◌, arith}
+use Rattle.std.proofs.Common.{◌≡◌, ℕ, length, sym, ap, arith}
 use Rattle.std.proofs.lemmas.Bool.{true≢false, eqb-true}
 use Rattle.flat_model.specs.Volume.{Subvolume}
-use Rattle.flat_sub.specs.declared.sub.FlatSub.{FlatSub}
 use Rattle.one_leaf.proofs.Volumes.{has_one, first_coherent, first_is, first_test}
 use Rattle.one_leaf.proofs.fits.is_one_leaf.Goals as goal
 

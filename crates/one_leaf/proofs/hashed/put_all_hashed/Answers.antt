@@ -1,12 +1,12 @@
-use Rattle.std.proofs.Common.{◌≡◌, ◌<◌, ◌+◌, ◌++◌, ℕ, List, [], ◌∷◌, map, filter, length, nat_le, refl, sym, ap, subst, ◌∙◌, arith}
+use Rattle.std.proofs.Common.{◌≡◌, ◌<◌, ◌+◌, ℕ, List, [], ◌∷◌, map, filter, length, nat_le, sym, ap, subst, arith}
 use Rattle.blk_base.specs.Leaf.{Item}
 use Rattle.flat_model.specs.Names.{FlatName}
 use Rattle.flat_sub.specs.View.{names_view}
 use Rattle.one_leaf.specs.Keys.{hashes_of}
 use Rattle.one_leaf.specs.LeafItems.{hashed_item}
 use Rattle.one_leaf.proofs.KeysRising.{hashes_rise}
-use Rattle.one_leaf.proofs.Least.{least_behind, none_left, all_from_none}
-use Rattle.one_leaf.proofs.Fronts.{IsLeft, left_start, left_more, left_fits, left_none}
+use Rattle.one_leaf.proofs.Least.{least_behind, all_from_none}
+use Rattle.one_leaf.proofs.Fronts.{IsLeft, left_start, left_more, left_fits}
 use Rattle.one_leaf.proofs.hashed.put_all_hashed.Goals as goal
 
 pub loop-hash-init : goal.loop-hash-init

@@ -1,5 +1,4 @@
-use Rattle.std.proofs.Common.{◌≡◌, ◌++◌, List, map, filter, length, nat_le}
-use Rattle.blk_base.specs.Leaf.{Item}
+use Rattle.std.proofs.Common.{map, filter, length, nat_le}
 use Rattle.flat_sub.specs.View.{names_view}
 use Rattle.one_leaf.specs.Keys.{hashes_of}
 use Rattle.one_leaf.specs.LeafItems.{hashed_item}

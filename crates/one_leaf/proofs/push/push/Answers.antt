@@ -1,7 +1,6 @@
-use Rattle.std.proofs.Common.{◌≡◌, ◌≤◌, ◌+◌, ◌*◌, ◌++◌, ◌∷◌, [], ℕ, List, length, sum_by, refl, ap, sym, ◌∙◌, arith}
-use Rattle.blk_base.specs.Leaf.{Item, data_of}
+use Rattle.std.proofs.Common.{List, arith}
+use Rattle.blk_base.specs.Leaf.{Item}
 use Rattle.leaf_edit.specs.Editor.{items_of}
-use Rattle.one_leaf.specs.OneLeaf.{leaf_bytes}
 use Rattle.one_leaf.proofs.Fronts.{bytes_of_data, bytes_push}
 use Rattle.one_leaf.proofs.push.push.Goals as goal
 

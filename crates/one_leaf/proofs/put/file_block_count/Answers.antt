@@ -5,7 +5,7 @@ use Rattle.flat_model.specs.Records.{InodeRecord}
 use Rattle.flat_model.specs.Volume.{Subvolume}
 use Rattle.flat_record.proofs.Tables.{entries_rising}
 use Rattle.flat_sub.specs.View.{sub_view}
-use Rattle.one_leaf.specs.LeafItems.{block_count, blocks_in}
+use Rattle.one_leaf.specs.LeafItems.{blocks_in}
 use Rattle.one_leaf.specs.Parts.{IsPutInode}
 use Rattle.one_leaf.proofs.Loops.{there_at}
 use Rattle.one_leaf.proofs.FileItems.{put_inode_of}

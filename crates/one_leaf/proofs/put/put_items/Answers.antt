@@ -1,18 +1,15 @@
-use Rattle.std.proofs.Common.{◌≡◌, ◌<◌, ◌≤◌, ◌++◌, ◌∷◌, ◌^◌, ℕ, List, [], All, map, length, sym, ap, subst, ◌∙◌, arith}
+use Rattle.std.proofs.Common.{◌≡◌, ◌++◌, ◌∷◌, List, [], sym, ap, subst, ◌∙◌}
 use Rattle.blk_base.specs.Items.{InodeValue, inode_bytes}
 use Rattle.blk_base.specs.Keys.{inode_item}
 use Rattle.blk_base.specs.Leaf.{Item}
 use Rattle.flat_model.specs.Volume.{Subvolume}
-use Rattle.flat_model.specs.Records.{DirRecord, InodeRecord, DirInode}
+use Rattle.flat_model.specs.Records.{DirInode}
 use Rattle.flat_sub.specs.View.{sub_view}
-use Rattle.item_inode.specs.Inode.{inode_view}
 use Rattle.leaf_edit.specs.Editor.{items_of, bytes_of}
 use Rattle.leaf_edit.specs.Passing.{packed_passes}
-use Rattle.leaf_edit.specs.declared.leaf_mut.LeafMut.{LeafMut}
-use Rattle.leaf_view.specs.Listed.{items_in}
 use Rattle.volume_image.specs.Tree.{ItemsRise}
-use Rattle.volume_image.specs.Subvolume.{Data, AreItemsOf, data_addresses, make_key}
-use Rattle.one_leaf.specs.LeafItems.{inode_value_of, written_inode, leaf_items, file_blocks}
+use Rattle.volume_image.specs.Subvolume.{AreItemsOf, data_addresses, make_key}
+use Rattle.one_leaf.specs.LeafItems.{written_inode, leaf_items}
 use Rattle.one_leaf.specs.Putting.{LeafFits, Appends}
 use Rattle.one_leaf.proofs.SmallSubs.{root_dir}
 use Rattle.one_leaf.proofs.Volumes.{small_of}

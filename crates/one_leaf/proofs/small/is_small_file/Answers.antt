@@ -1,4 +1,4 @@
-use Rattle.std.proofs.Common.{sym, ◌∙◌, arith}
+use Rattle.std.proofs.Common.{sym, arith}
 use Rattle.one_leaf.proofs.Loops.{small_file_test}
 use Rattle.one_leaf.proofs.small.is_small_file.Goals as goal
 
