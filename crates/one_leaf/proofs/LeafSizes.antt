@@ -170,14 +170,14 @@ module _ (sub : Subvolume) (coherent : IsCoherent sub) (small : IsSmallSub sub) 
       go true near =
           let p : FlatName → Bool = λ n. n.near && (nat_eq n.ino name.ino && nat_eq n.dir name.dir) in
           let passes : p name ≡ true = (λ i. near i && (eq-eqb name.ino name.ino refl i && eq-eqb name.dir name.dir refl i)) in
-          let alone = name_alone ino name p is (λ x h. eq-eqb x.ino ino (eqb-true x.ino name.ino (and_parts _ _ (and_parts _ _ h).1).0 ∙ leads)) passes in
+          let alone : filter p sub.names ≡ name ∷ [] = name_alone ino name p is (λ x h. eq-eqb x.ino ino (eqb-true x.ino name.ino (and_parts _ _ (and_parts _ _ h).1).0 ∙ leads)) passes in
           ap (λ (b : Bool). 25 + cond b 12 (sum_by ref_length (filter p sub.names))) (ne_eqb name.ino 256 (λ e. other (sym leads ∙ e)))
           ∙ ap (λ (l : List FlatName). 25 + sum_by ref_length l) alone ∙ near_size (length name.bytes)
       go false far =
           let hash = extref_hash_of name.dir name.bytes in
           let p : FlatName → Bool = λ n. not n.near && (nat_eq n.ino name.ino && nat_eq (extref_hash_of n.dir n.bytes) hash) in
           let passes : p name ≡ true = (λ i. not (far i) && (eq-eqb name.ino name.ino refl i && eq-eqb hash hash refl i)) in
-          let alone = name_alone ino name p is (λ x h. eq-eqb x.ino ino (eqb-true x.ino name.ino (and_parts _ _ (and_parts _ _ h).1).0 ∙ leads)) passes in
+          let alone : filter p sub.names ≡ name ∷ [] = name_alone ino name p is (λ x h. eq-eqb x.ino ino (eqb-true x.ino name.ino (and_parts _ _ (and_parts _ _ h).1).0 ∙ leads)) passes in
           ap (λ (l : List FlatName). 25 + sum_by extref_length l) alone ∙ far_size (length name.bytes)
 
   block_sum : (ino : ℕ) (inode : InodeRecord) → sum_by (key_bytes sub) (block_keys ino inode) ≡ cond (has_block inode) 78 0

@@ -1,9 +1,12 @@
 -- The written items fit a leaf, whatever the addresses of the blocks are.
-use Rattle.std.proofs.Common.{◌≡◌, ◌<◌, ◌≤◌, ◌+◌, ◌-◌, ◌^◌, ◌++◌, ℕ, Bool, true, false, cond, List, [], ◌∷◌, length, drop, map, sum_by, slice_get, nat_eq, Some, refl, sym, ap, subst, ◌∙◌, arith, append_assoc}
+use Rattle.std.proofs.Common.{◌≡◌, ◌<◌, ◌≤◌, ◌+◌, ◌-◌, ◌^◌, ◌++◌, ℕ, Bool, true, false, cond, List, [], ◌∷◌, length, drop, map, sum_by, slice_get, nat_eq, All, Some, refl, sym, ap, subst, ◌∙◌, arith, append_assoc}
 use Rattle.std.proofs.lemmas.List.{length-map, length-drop}
 use Rattle.std.proofs.lemmas.List.Sums.{sum_by-cons, sum_by-append}
 use Rattle.std.specs.List.{range_with_len}
 use Rattle.std.specs.FinMap.{get, entries}
+use Rattle.blk_base.specs.declared.key.Addr.{Addr}
+use Rattle.blk_base.specs.Items.{InodeValue, inode_bytes}
+use Rattle.blk_base.specs.Keys.{inode_item}
 use Rattle.blk_base.specs.Leaf.{Item}
 use Rattle.blk_base.specs.Extents.{regular_bytes}
 use Rattle.leaf_edit.specs.declared.leaf_mut.LeafMut.{LeafMut}
@@ -14,16 +17,19 @@ use Rattle.flat_model.specs.Records.{InodeRecord, DirRecord, DirInode}
 use Rattle.flat_model.specs.Volume.{Subvolume}
 use Rattle.flat_model.specs.Coherent.{IsCoherent}
 use Rattle.volume_image.specs.Tree.{ItemsRise}
-use Rattle.volume_image.specs.Subvolume.{Data}
-use Rattle.one_leaf.specs.OneLeaf.{IsSmallSub, leaf_bytes}
+use Rattle.volume_image.specs.Subvolume.{Data, AreItemsOf, data_addresses, make_key}
+use Rattle.one_leaf.specs.OneLeaf.{IsOneLeafSub, IsSmallSub, leaf_bytes}
 use Rattle.one_leaf.specs.Keys.{hashes_of, has_block}
 use Rattle.one_leaf.specs.LeafBytes.{name_bytes, bytes_of_leaf}
-use Rattle.one_leaf.specs.LeafItems.{written_inode, own_item, hashed_item, indexed_item, root_items, name_item, block_items, file_items, block_count, files_items, leaf_items, file_blocks}
+use Rattle.one_leaf.specs.LeafItems.{inode_value_of, written_inode, own_item, hashed_item, indexed_item, root_items, name_item, block_items, file_items, block_count, files_items, leaf_items, file_blocks}
 use Rattle.one_leaf.specs.Parts.{names_length, items_of_inode}
 use Rattle.one_leaf.specs.Putting.{LeafFits, Appends}
 use Rattle.one_leaf.proofs.RisingKeys.{keys_rise_items, rise_test}
+use Rattle.one_leaf.proofs.SmallSubs.{root_dir}
 use Rattle.one_leaf.proofs.LeafSizes.{leaf_bytes_are}
-use Rattle.one_leaf.proofs.Written.{written_are_items, written_rise, places_stand, low_places, few_in_all, all_there}
+use Rattle.one_leaf.proofs.Written.{bytes_from_fits, written_addresses, written_are_items, written_rise, places_stand, low_places, few_in_all, all_there}
+use Rattle.one_leaf.proofs.FileItems.{numbers, numbers_length}
+use Rattle.one_leaf.proofs.Volumes.{small_of}
 use Rattle.one_leaf.proofs.Fronts.{appends_both, fits_part, fits_after}
 
 abbrev size_of_item : Item → ℕ
@@ -99,45 +105,50 @@ module _ (sub : Subvolume) (coherent : IsCoherent sub) (small : IsSmallSub sub) 
     pub whole_rises : ItemsRise (leaf_items sub generation (DirInode dir) addresses)
     whole_rises = keys_rise_items (leaf_items sub generation (DirInode dir) addresses) (written_rise sub coherent small generation (DirInode dir) addresses (omega (arith, size)))
 
--- ---- the parts in their order
-
-module _ (sub : Subvolume) (generation : ℕ) (root : InodeRecord) (addresses : List ℕ) where
-  abbrev pub hashed_part : List Item
-  hashed_part = map (hashed_item sub.names generation) (hashes_of sub.names)
-
-  abbrev pub indexed_part : List Item
-  indexed_part = map (indexed_item generation) sub.names
-
-  abbrev pub files_part : List Item
-  files_part = files_items sub generation (entries sub.inodes) addresses
-
-  abbrev pub front_part : List Item
-  front_part = written_inode sub generation 256 root ∷ own_item ∷ []
-
-  -- all items, part by part
-  pub parts_are : leaf_items sub generation root addresses ≡ front_part ++ (hashed_part ++ (indexed_part ++ files_part))
-  parts_are = ap (λ (l : List Item). front_part ++ l) (append_assoc hashed_part indexed_part files_part)
-
 -- ---- one part after another
 
-module _ (sub : Subvolume) (generation : ℕ) (root : InodeRecord) (addresses : List ℕ) (leaf : LeafMut) (none : items_of leaf ≡ []) (fits : LeafFits (leaf_items sub generation root addresses)) where
+-- A subvolume that stands in one leaf, an empty leaf, and the item of the root directory's inode.
+module _ (sub : Subvolume) (coherent : IsCoherent sub) (one_leaf : IsOneLeafSub sub) (generation : ℕ) (fits : generation < 2 ^ 64) (addresses : List Addr) (size : length addresses ≡ length (file_blocks sub)) (leaf : LeafMut) (none : items_of leaf ≡ [])
+    (value : InodeValue) (is : (dir : DirRecord) → value ≡ inode_value_of sub generation 256 (DirInode dir)) where
+  abbrev small : IsSmallSub sub
+  small = small_of sub one_leaf
+
+  abbrev root : InodeRecord
+  root = DirInode (root_dir sub coherent small).0
+
+  abbrev places : List ℕ
+  places = numbers addresses
+
+  few : bytes_of_leaf sub ≤ 3995
+  few = bytes_from_fits sub coherent small one_leaf.fits
+
+  many : length places ≡ length (file_blocks sub)
+  many = numbers_length addresses ∙ size
+
   abbrev inode_part : List Item
-  inode_part = written_inode sub generation 256 root ∷ []
+  inode_part = (make_key 256 inode_item 0, inode_bytes value) ∷ []
 
   abbrev own_part : List Item
   own_part = own_item ∷ []
 
   abbrev hashed : List Item
-  hashed = hashed_part sub generation root addresses
+  hashed = map (hashed_item sub.names generation) (hashes_of sub.names)
 
   abbrev indexed : List Item
-  indexed = indexed_part sub generation root addresses
+  indexed = map (indexed_item generation) sub.names
 
   abbrev files : List Item
-  files = files_part sub generation root addresses
+  files = files_items sub generation (entries sub.inodes) places
+
+  parts_are : leaf_items sub generation root places ≡ inode_part ++ (own_part ++ (hashed ++ (indexed ++ files)))
+  parts_are =
+      ap (λ (l : List Item). (written_inode sub generation 256 root ∷ own_item ∷ []) ++ l) (append_assoc hashed indexed files)
+      ∙ ap (λ (v : InodeValue). ((make_key 256 inode_item 0, inode_bytes v) ∷ own_item ∷ []) ++ (hashed ++ (indexed ++ files))) (sym (is (root_dir sub coherent small).0))
 
   start : LeafFits (items_of leaf ++ (inode_part ++ (own_part ++ (hashed ++ (indexed ++ files)))))
-  start = subst (λ (l : List Item). LeafFits (l ++ (inode_part ++ (own_part ++ (hashed ++ (indexed ++ files)))))) (sym none) (subst LeafFits (parts_are sub generation root addresses) fits)
+  start =
+      subst (λ (l : List Item). LeafFits (l ++ (inode_part ++ (own_part ++ (hashed ++ (indexed ++ files)))))) (sym none)
+      (subst LeafFits parts_are (whole_fits sub coherent small few generation fits (root_dir sub coherent small).0 (root_dir sub coherent small).1 places many))
 
   pub inode_fits : LeafFits (items_of leaf ++ inode_part)
   inode_fits = fits_part (items_of leaf) inode_part (own_part ++ (hashed ++ (indexed ++ files))) start
@@ -167,10 +178,29 @@ module _ (sub : Subvolume) (generation : ℕ) (root : InodeRecord) (addresses : 
           pub files_fit : LeafFits (items_of four ++ files)
           files_fit = fits_after three four indexed files fourth after_three
 
-          pub all_written : (five : LeafMut) → Appends four five files → items_of five ≡ leaf_items sub generation root addresses
-          all_written five fifth =
-              let both = appends_both two three four hashed indexed third fourth in
-              let more = appends_both two four five (hashed ++ indexed) files both fifth in
-              let less = appends_both leaf one two inode_part own_part first second in
-              let all = appends_both leaf two five (inode_part ++ own_part) ((hashed ++ indexed) ++ files) less more in
-              all.items ∙ ap (λ (l : List Item). l ++ leaf_items sub generation root addresses) none
+          module _ (five : LeafMut) (fifth : Appends four five files) where
+            all_written : items_of five ≡ leaf_items sub generation root places
+            all_written =
+                let front = appends_both leaf one two inode_part own_part first second in
+                let middle = appends_both two three four hashed indexed third fourth in
+                let back = appends_both two four five (hashed ++ indexed) files middle fifth in
+                let all = appends_both leaf two five (inode_part ++ own_part) ((hashed ++ indexed) ++ files) front back in
+                all.items ∙ ap (λ (l : List Item). l ++ ((inode_part ++ own_part) ++ ((hashed ++ indexed) ++ files))) none
+                ∙ ap (λ (l : List Item). (inode_part ++ own_part) ++ l) (append_assoc hashed indexed files) ∙ sym parts_are
+
+            -- the items, byte by byte
+            pub are_written : (inode : InodeRecord) → get sub.inodes 256 ≡ Some inode → items_of five ≡ leaf_items sub generation inode places
+            are_written inode there =
+                let same : root ≡ inode = let both : Some root ≡ Some inode = sym (root_dir sub coherent small).1 ∙ there in cc in
+                all_written ∙ ap (λ (r : InodeRecord). leaf_items sub generation r places) same
+
+            pub are_rising : ItemsRise (items_of five)
+            are_rising = subst ItemsRise (sym all_written) (whole_rises sub coherent small few generation fits (root_dir sub coherent small).0 (root_dir sub coherent small).1 places many)
+
+            pub are_items : All (λ at. at < 2 ^ 64) places → (blocks : Data) → map blocks places ≡ map (λ (block : List ℕ). Some block) (file_blocks sub) → AreItemsOf (items_of five) blocks sub
+            are_items range blocks stand =
+                subst (λ (l : List Item). AreItemsOf l blocks sub) (sym all_written)
+                (written_are_items sub coherent small generation fits blocks (root_dir sub coherent small).0 places (root_dir sub coherent small).1 few range stand)
+
+            pub are_addresses : All (λ at. at < 2 ^ 64) places → data_addresses (items_of five) ≡ places
+            are_addresses range = ap data_addresses all_written ∙ written_addresses sub coherent small generation root places range (sym many)

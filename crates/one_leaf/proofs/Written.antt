@@ -320,7 +320,7 @@ module _ (sub : Subvolume) (coherent : IsCoherent sub) (small : IsSmallSub sub) 
         go true near =
             let p : FlatName → Bool = λ n. n.near && (nat_eq n.ino name.ino && nat_eq n.dir name.dir) in
             let passes : p name ≡ true = (λ i. near i && (eq-eqb name.ino name.ino refl i && eq-eqb name.dir name.dir refl i)) in
-            let alone = name_alone sub coherent small ino name p is (λ x h. eq-eqb x.ino ino (eqb-true x.ino name.ino (and_parts _ _ (and_parts _ _ h).1).0 ∙ leads)) passes in
+            let alone : filter p sub.names ≡ name ∷ [] = name_alone sub coherent small ino name p is (λ x h. eq-eqb x.ino ino (eqb-true x.ino name.ino (and_parts _ _ (and_parts _ _ h).1).0 ∙ leads)) passes in
             let asked : ref_of name ∷ [] ≡ refs_asked sub name.ino name.dir =
             sym ((λ i. cond (ne_eqb name.ino 256 (λ e. other (sym leads ∙ e)) i && nat_eq name.dir 256) (record { index = 0; name = dots } ∷ []) [] ++ map ref_of (alone i)) ∙ refl) in
             let index = (coherent.index_numbers name c).1 in
@@ -334,7 +334,7 @@ module _ (sub : Subvolume) (coherent : IsCoherent sub) (small : IsSmallSub sub) 
             let hash = extref_hash_of name.dir name.bytes in
             let p : FlatName → Bool = λ n. not n.near && (nat_eq n.ino name.ino && nat_eq (extref_hash_of n.dir n.bytes) hash) in
             let passes : p name ≡ true = (λ i. not (far i) && (eq-eqb name.ino name.ino refl i && eq-eqb hash hash refl i)) in
-            let alone = name_alone sub coherent small ino name p is (λ x h. eq-eqb x.ino ino (eqb-true x.ino name.ino (and_parts _ _ (and_parts _ _ h).1).0 ∙ leads)) passes in
+            let alone : filter p sub.names ≡ name ∷ [] = name_alone sub coherent small ino name p is (λ x h. eq-eqb x.ino ino (eqb-true x.ino name.ino (and_parts _ _ (and_parts _ _ h).1).0 ∙ leads)) passes in
             let asked : extref_of name ∷ [] ≡ extrefs_asked sub name.ino hash = sym (ap (map extref_of) alone) in
             let index = (coherent.index_numbers name c).1 in
             let dir = in_root sub coherent small name c in
