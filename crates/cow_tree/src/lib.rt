@@ -11,7 +11,11 @@ mod node;
 mod own;
 mod pieces;
 #[cfg(test)]
+mod rows;
+#[cfg(test)]
 mod tests;
 mod write;
 
 pub use edit::{put, replace};
+pub use tree_delete::delete;
+pub use tree_range::get;
