@@ -22,11 +22,11 @@ use Rattle.tree_blocks.proofs.Orders.{pointer_keys-append}
 use Rattle.tree_frame.specs.Frame.{IsEdit, TakesAtMost, leaves_below, without_item}
 use Rattle.tree_delete.specs.Rows.{HasItemBelow, IsChildOf, IsLessNode, IsNodeOver, row_items, row_reach}
 use Rattle.tree_delete.specs.Steps.{IsCurrentNode}
+use Rattle.tree_frame.proofs.Members.{in_nothing}
 use Rattle.tree_delete.proofs.Blocks.{node_same}
 use Rattle.tree_delete.proofs.Cuts.{at_cut, length_at}
 use Rattle.tree_delete.proofs.Edits.{takes_join, takes_more}
 use Rattle.tree_delete.proofs.Items.{rise_without}
-use Rattle.tree_delete.proofs.Lists.{none_in}
 use Rattle.tree_delete.proofs.Nodes.{IsKid, child_of_kid}
 use Rattle.tree_delete.proofs.Pairs.{dirty_used, keys_above, keys_before, keys_right, place_between, same_allowed}
 use Rattle.tree_delete.proofs.Rows.{Begins, firsts_of, over_from, row_first, row_keys_rise}
@@ -179,7 +179,7 @@ leaf_gone old mid at key p edit items = record { edit = edit; once = tt; items =
 
 -- or it has an item less
 pub leaf_less : (old mid : Table) (key : Key) (p q : Pointer) → IsEdit old mid (p.at ∷ []) (q.at ∷ []) → leaf_items mid q.at ++ [] ≡ without_item key (leaf_items old p.at) → IsChildDone 0 old mid key p (q ∷ [])
-leaf_less old mid key p q edit items = record { edit = edit; once = ((λ there. none_in q.at there), tt); items = items; leaves = omega (arith, sum_by-cons (λ (r : Pointer). leaves_below 0 mid r.at) q []) }
+leaf_less old mid key p q edit items = record { edit = edit; once = ((λ there. in_nothing q.at there), tt); items = items; leaves = omega (arith, sum_by-cons (λ (r : Pointer). leaves_below 0 mid r.at) q []) }
 
 -- the first key of a list whose first key is read
 pub first_read : (items : List Item) (key : Key) → slice_get (keys_of items) 0 ≡ Some key → first_key items ≡ Some key

@@ -22,8 +22,9 @@ use Rattle.tree_blocks.specs.Steps.{IsDirtyNode, node_at}
 use Rattle.tree_blocks.proofs.Orders.{node_rise, pointer_keys-append}
 use Rattle.tree_frame.specs.Frame.{IsEdit}
 use Rattle.tree_delete.specs.Steps.{HasPair, IsDirtyPair, IsEven, IsPair, IsShared, ats_of}
+use Rattle.tree_frame.proofs.EditLaws.{edits_join}
 use Rattle.tree_delete.proofs.Cuts.{All-unmap, at_cut}
-use Rattle.tree_delete.proofs.Edits.{IsCarried, IsWhole, carry, join_edits}
+use Rattle.tree_delete.proofs.Edits.{IsCarried, IsWhole, carry}
 use Rattle.tree_delete.proofs.Lists.{contains_behind, contains_first, contains_two, times_append}
 use Rattle.tree_delete.proofs.Pairs.{dirty_node, node_most, keys_before, one_once, place_between, same_allowed, same_dirty, same_node, two_once}
 
@@ -90,7 +91,7 @@ evened old mid new at place h pointers shared firsts some edit node is spare fre
       firsts = still (λ t p. key_behind (node_at t p.at) None ≡ Some p.key) mid new pointers (λ p same k. ap (λ (l : List Pointer). key_behind l None) (same_node mid new p.at same) ∙ k) c.alike firsts;
       some = some;
       once = c.whole.once;
-      edit = join_edits old mid new (at ∷ h.left.at ∷ h.right.at ∷ []) (at ∷ made) (at ∷ made) under.edit c.edit;
+      edit = edits_join old mid new (at ∷ h.left.at ∷ h.right.at ∷ []) (at ∷ made) (at ∷ made) under.edit c.edit;
       blocks = record { spare = omega (arith, shared.blocks.spare, spare); free = omega (arith, shared.blocks.free, free) };
     }
 
@@ -285,4 +286,4 @@ module _ (old mid then : Table) (at place left right : ℕ) (h : HasPair old at 
       let left_key : key_behind (node_at mid left) None ≡ Some h.left.key = left_first (node_at mid left) (node_at mid right) (node_at old h.left.at) (node_at old h.right.at) h.left.key left_some both_lists h.first in
       let q : Pointer = record { key = first.0; at = right; generation = 0 } in
       let row : node_at new at ≡ h.lefts ++ left_to h.left left ∷ q ∷ h.rights = inserted_at first.0 first_then ∙ inserted (node_at then at) h.lefts (left_to h.left left) q h.rights place (then_pointers old mid at place h (left ∷ right ∷ []) shared then left edit node pointers) h.long in
-      evened old mid new at place h (left_to h.left left ∷ q ∷ []) shared (All-cons B (left_to h.left left) (q ∷ []) left_key (All-cons B q [] first.1 (All-nil B))) (omega arith) (join_edits mid then new (at ∷ []) (at ∷ []) (at ∷ []) edit edit_new) node_new row (spare_new ∙ spare) (free_new ∙ free)
+      evened old mid new at place h (left_to h.left left ∷ q ∷ []) shared (All-cons B (left_to h.left left) (q ∷ []) left_key (All-cons B q [] first.1 (All-nil B))) (omega arith) (edits_join mid then new (at ∷ []) (at ∷ []) (at ∷ []) edit edit_new) node_new row (spare_new ∙ spare) (free_new ∙ free)

@@ -16,8 +16,9 @@ use Rattle.tree_blocks.specs.Lists.{IsLeafBlock, leaf_list}
 use Rattle.tree_blocks.specs.Steps.{HasNewBytes, IsDirtyLeaf, IsLeafAt, IsSameBut, leaf_at}
 use Rattle.tree_blocks.proofs.Listing.{leaf_from_ok, leaf_to_ok}
 use Rattle.tree_frame.specs.Frame.{IsEdit, TakesAtMost, without_item}
-use Rattle.tree_delete.proofs.Blocks.{IsOwned, leaf_same, written_edit}
-use Rattle.tree_delete.proofs.Edits.{join_edits}
+use Rattle.tree_frame.proofs.EditLaws.{edits_join}
+use Rattle.tree_frame.proofs.StepLaws.{new_bytes_are_an_edit}
+use Rattle.tree_delete.proofs.Blocks.{IsOwned, leaf_same}
 use Rattle.tree_delete.proofs.Items.{present_found, without_at}
 use Rattle.tree_delete.proofs.Pairs.{dirty_used, same_allowed}
 
@@ -72,7 +73,7 @@ module _ (old mid : Table) (at copy : ℕ) (key : Key) (h : IsLeafCopy old mid a
         (record { allowed = allowed; taken = dirty_used new copy leaf.dirty }, leaf_to_ok (block_at new copy).bytes leaf.body, omega arith)
 
     pub removed_edit : IsEdit old new (at ∷ []) (copy ∷ [])
-    removed_edit = join_edits old mid new (at ∷ []) (copy ∷ []) (copy ∷ []) h.own.edit (written_edit mid new copy h.dirty kept others)
+    removed_edit = edits_join old mid new (at ∷ []) (copy ∷ []) (copy ∷ []) h.own.edit (new_bytes_are_an_edit mid new copy h.dirty kept others)
 
     pub removed_blocks : TakesAtMost old new 1
     removed_blocks = record { spare = omega (arith, h.own.blocks.spare, spare); free = omega (arith, h.own.blocks.free, free) }

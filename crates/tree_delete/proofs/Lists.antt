@@ -6,6 +6,7 @@ use Rattle.std.proofs.lemmas.List.Elements.{All-contains, Contains-get_or, Conta
 use Rattle.std.proofs.lemmas.Option.{slice_get-get_or}
 use Rattle.block_table.specs.TreeIn.{NoneTwice}
 use Rattle.tree_range.specs.Part.{times_in}
+use Rattle.tree_frame.proofs.Members.{in_one, in_tail}
 
 pub times_append : (at : ℕ) (xs ys : List ℕ) → times_in at (xs ++ ys) ≡ times_in at xs + times_in at ys
 times_append at [] ys = omega arith
@@ -13,9 +14,6 @@ times_append at (x ∷ xs) ys = omega (arith, times_append at xs ys)
 
 times_cons : (at x : ℕ) (xs : List ℕ) (b : Bool) → (x == at) ≡ b → times_in at (x ∷ xs) ≡ (if b then 1 else 0) + times_in at xs
 times_cons at x xs b h = ap (λ (b' : Bool). (if b' then 1 else 0) + times_in at xs) h
-
-contains_more : (x y : ℕ) (xs : List ℕ) → Contains xs y → Contains (x ∷ xs) y
-contains_more x y xs h = (suc h.0, omega (arith, h.1), h.2)
 
 times_contained : (at : ℕ) (xs : List ℕ) (place : ℕ) → place < length xs → slice_get xs place ≡ Some at → 1 ≤ times_in at xs
 times_contained at [] place inside is = absurd (omega arith)
@@ -26,7 +24,7 @@ pub contained_by_times : (at : ℕ) (xs : List ℕ) → 1 ≤ times_in at xs →
 contained_by_times at [] h = absurd (omega arith)
 contained_by_times at (x ∷ xs) h = elim (cases_Bool (x == at)) [
   | inl same ↦ (0, omega arith, eqb-true x at same)
-  | inr other ↦ contains_more x at xs (contained_by_times at xs (omega (arith, times_cons at x xs false other)))
+  | inr other ↦ in_tail x at xs (contained_by_times at xs (omega (arith, times_cons at x xs false other)))
 ]
 
 get_of : (xs : List ℕ) (place at : ℕ) → place < length xs → slice_index_or xs place at ≡ at → slice_get xs place ≡ Some at
@@ -50,13 +48,6 @@ none_twice_to (x ∷ xs) at h = elim (cases_Bool (x == at)) [
       ] in
       omega (arith, times_cons at x xs true same)
   | inr other ↦ omega (arith, times_cons at x xs false other, none_twice_to xs at h.1)
-]
-
--- a list has an address or hasn't
-pub has_or : (xs : List ℕ) (at : ℕ) → Contains xs at ⊎ (Contains xs at → ⊥)
-has_or xs at = elim (cases_lt (times_in at xs) 1) [
-  | inl none ↦ inr (λ there. omega (arith, contains_times at xs there))
-  | inr some ↦ inl (contained_by_times at xs some)
 ]
 
 -- two lists have each address equally often
@@ -84,24 +75,14 @@ pub parts_apart : (whole before rest : List ℕ) (at : ℕ) → IsShuffle whole 
 parts_apart whole before rest at h once there other =
     omega (arith, none_twice_to whole at once, h at, times_append at before rest, contains_times at before there, contains_times at rest other)
 
-one_at : (x at k : ℕ) → k < length (x ∷ []) → slice_index_or (x ∷ []) k at ≡ at → x ≡ at
-one_at x at zero inside is = is
-one_at x at (suc k) inside is = absurd (omega (arith, inside))
-
-pub contains_one : (x at : ℕ) → Contains (x ∷ []) at → x ≡ at
-contains_one x at h = one_at x at h.0 h.1 h.2
-
 pub contains_first : (x : ℕ) (xs : List ℕ) → Contains (x ∷ xs) x
 contains_first x xs = (0, omega arith, refl)
 
 pub contains_behind : (x : ℕ) (xs : List ℕ) (at : ℕ) → Contains xs at → Contains (x ∷ xs) at
-contains_behind x xs at h = contains_more x at xs h
+contains_behind x xs at h = in_tail x at xs h
 
 pub contains_two : (x y at : ℕ) → Contains (x ∷ y ∷ []) at → (x ≡ at) ⊎ (y ≡ at)
 contains_two x y at h = elim (Contains-append_cases (x ∷ []) (y ∷ []) at h) [
-  | inl there ↦ inl (contains_one x at there)
-  | inr there ↦ inr (contains_one y at there)
+  | inl there ↦ inl (in_one x at there)
+  | inr there ↦ inr (in_one y at there)
 ]
-
-pub none_in : (at : ℕ) → Contains [] at → ⊥
-none_in at h = omega (arith, h.1)

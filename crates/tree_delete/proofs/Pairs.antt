@@ -25,10 +25,13 @@ use Rattle.tree_blocks.specs.Steps.{HasNewBytes, IsDirtyNode, IsNodeAt, IsSameBu
 use Rattle.tree_blocks.proofs.Orders.{pointer_keys-append}
 use Rattle.tree_frame.specs.Frame.{IsEdit}
 use Rattle.tree_delete.specs.Steps.{IsCurrentNode, IsDirtyPair, IsOwnedPair, IsPair, IsShared}
-use Rattle.tree_delete.proofs.Blocks.{IsOwned, joined_edit, written_edit}
+use Rattle.tree_frame.proofs.EditLaws.{edits_join}
+use Rattle.tree_frame.proofs.Members.{in_nothing, in_one}
+use Rattle.tree_frame.proofs.StepLaws.{join_is_an_edit, new_bytes_are_an_edit}
+use Rattle.tree_delete.proofs.Blocks.{IsOwned}
 use Rattle.tree_delete.proofs.Cuts.{cut_at, at_within}
-use Rattle.tree_delete.proofs.Edits.{IsWhole, carry, join_edits}
-use Rattle.tree_delete.proofs.Lists.{contains_first, contains_one, none_in, times_append}
+use Rattle.tree_delete.proofs.Edits.{IsWhole, carry}
+use Rattle.tree_delete.proofs.Lists.{contains_first, times_append}
 
 -- ---- two blocks
 
@@ -36,10 +39,10 @@ swap_two : (a b x : ℕ) → times_in x (a ∷ b ∷ []) ≡ times_in x (b ∷ a
 swap_two a b x = omega (arith, times_append x (a ∷ []) (b ∷ []), times_append x (b ∷ []) (a ∷ []))
 
 pub two_once : (a b : ℕ) → a ≢ b → NoneTwice (a ∷ b ∷ [])
-two_once a b apart = ((λ there. apart (sym (contains_one b a there))), ((λ there. none_in b there), tt))
+two_once a b apart = ((λ there. apart (sym (in_one b a there))), ((λ there. in_nothing b there), tt))
 
 pub one_once : (a : ℕ) → NoneTwice (a ∷ [])
-one_once a = ((λ there. none_in a there), tt)
+one_once a = ((λ there. in_nothing a there), tt)
 
 pub once_apart : (a b : ℕ) (rest : List ℕ) → NoneTwice (a ∷ b ∷ rest) → a ≢ b
 once_apart a b rest once e = once.0 (subst (λ (x : ℕ). Contains (b ∷ rest) x) (sym e) (contains_first b rest))
@@ -128,20 +131,20 @@ pub record IsBothWritten (old mid new : Table) (from to : ℕ) : Type 0 where
   pub from_same : node_at new from ≡ node_at mid from
 
 pub to_kept : (old mid : Table) (from to : ℕ) → IsDirtyPair old from to → IsSameBut old mid (from ∷ []) → block_at mid to ≡ block_at old to
-to_kept old mid from to pair others = others.others to (λ there. pair.apart (contains_one from to there))
+to_kept old mid from to pair others = others.others to (λ there. pair.apart (in_one from to there))
 
 from_kept : (mid new : Table) (from to : ℕ) → from ≢ to → IsSameBut mid new (to ∷ []) → block_at new from ≡ block_at mid from
-from_kept mid new from to apart others = others.others from (λ there. apart (sym (contains_one to from there)))
+from_kept mid new from to apart others = others.others from (λ there. apart (sym (in_one to from there)))
 
 pub both_written : (old mid new : Table) (from to : ℕ) → IsDirtyPair old from to → IsDirtyNode mid from → HasNewBytes old mid from → IsSameBut old mid (from ∷ []) → IsDirtyNode new to → HasNewBytes mid new to → IsSameBut mid new (to ∷ []) → IsBothWritten old mid new from to
 both_written old mid new from to pair from_node from_bytes from_others to_node to_bytes to_others =
     let kept = to_kept old mid from to pair from_others in
     let kept_from = from_kept mid new from to pair.apart to_others in
     let to_mid = same_dirty old mid to kept pair.right_node in
-    let first = carry old mid (from ∷ []) (from ∷ []) (to ∷ []) (from ∷ to ∷ []) (from ∷ to ∷ []) (written_edit old mid from pair.left_node.dirty from_bytes from_others) (one_once from) (dirty_pair old from to pair) (λ x. refl) (λ x. refl) in
-    let second = carry mid new (to ∷ []) (to ∷ []) (from ∷ []) (from ∷ to ∷ []) (from ∷ to ∷ []) (written_edit mid new to to_mid.dirty to_bytes to_others) (one_once to) first.whole (swap_two from to) (swap_two from to) in
+    let first = carry old mid (from ∷ []) (from ∷ []) (to ∷ []) (from ∷ to ∷ []) (from ∷ to ∷ []) (new_bytes_are_an_edit old mid from pair.left_node.dirty from_bytes from_others) (one_once from) (dirty_pair old from to pair) (λ x. refl) (λ x. refl) in
+    let second = carry mid new (to ∷ []) (to ∷ []) (from ∷ []) (from ∷ to ∷ []) (from ∷ to ∷ []) (new_bytes_are_an_edit mid new to to_mid.dirty to_bytes to_others) (one_once to) first.whole (swap_two from to) (swap_two from to) in
     record {
-      edit = join_edits old mid new (from ∷ to ∷ []) (from ∷ to ∷ []) (from ∷ to ∷ []) first.edit second.edit;
+      edit = edits_join old mid new (from ∷ to ∷ []) (from ∷ to ∷ []) (from ∷ to ∷ []) first.edit second.edit;
       pair = record {
         left_node = same_dirty mid new from kept_from from_node;
         right_node = to_node;
@@ -252,7 +255,7 @@ to_right_lists left right pointer place h last =
 pub shared_one : (old mid new : Table) (left right new_left new_right : ℕ) → IsPair old left right → IsOwnedPair old mid left right new_left new_right → node_at new new_left ≡ node_at mid new_left ++ node_at mid new_right → IsDirtyNode new new_left → HasNewBytes mid new new_left → block_at new new_right ≡ free_slot → IsSameBut mid new (new_left ∷ new_right ∷ [])
     → new.spare ≡ mid.spare + 1 → free_blocks new ≡ free_blocks mid + 1 → IsShared old new left right (new_left ∷ [])
 shared_one old mid new left right new_left new_right pair own joined node kept gone others spare free =
-    let edit = joined_edit mid new new_left new_right own.dirty.apart own.dirty.left_node.dirty own.dirty.right_node.dirty kept gone others in
+    let edit = join_is_an_edit mid new new_left new_right own.dirty.left_node.dirty own.dirty.right_node.dirty kept gone others in
     let lists : node_at new new_left ≡ node_at old left ++ node_at old right = joined ∙ ap (λ (l : List Pointer). l ++ node_at mid new_right) own.left_same ∙ ap (λ (l : List Pointer). node_at old left ++ l) own.right_same in
     let long : 30 ≤ length (node_at new new_left) = omega (arith, ap length lists, length-append (node_at old left) (node_at old right), pair.least) in
     record {
@@ -261,7 +264,7 @@ shared_one old mid new left right new_left new_right pair own joined node kept g
       nodes = All-cons (IsDirtyNode new) new_left [] node (All-nil (IsDirtyNode new));
       allowed = All-cons (λ (at : ℕ). IsAllowed (length new.slots) at) new_left [] (same_allowed mid new new_left others.size own.dirty.left_allowed) (All-nil (λ (at : ℕ). IsAllowed (length new.slots) at));
       once = one_once new_left;
-      edit = join_edits old mid new (left ∷ right ∷ []) (new_left ∷ new_right ∷ []) (new_left ∷ []) own.edit edit;
+      edit = edits_join old mid new (left ∷ right ∷ []) (new_left ∷ new_right ∷ []) (new_left ∷ []) own.edit edit;
       blocks = record { spare = omega (arith, own.blocks.spare, spare); free = omega (arith, own.blocks.free, free) };
     }
 
@@ -273,7 +276,7 @@ shared_two old mid new left right new_left new_right own pair lists left_least r
   nodes = two_all (IsDirtyNode new) new_left new_right pair.left_node pair.right_node;
   allowed = two_all (λ (at : ℕ). IsAllowed (length new.slots) at) new_left new_right pair.left_allowed pair.right_allowed;
   once = two_once new_left new_right pair.apart;
-  edit = join_edits old mid new (left ∷ right ∷ []) (new_left ∷ new_right ∷ []) (new_left ∷ new_right ∷ []) own.edit edit;
+  edit = edits_join old mid new (left ∷ right ∷ []) (new_left ∷ new_right ∷ []) (new_left ∷ new_right ∷ []) own.edit edit;
   blocks = record { spare = omega (arith, own.blocks.spare, spare); free = omega (arith, own.blocks.free, free) };
 }
 

@@ -16,14 +16,16 @@ use Rattle.tree_range.specs.Shape.{IsSubtree, IsTree, items_below, leaf_items, n
 use Rattle.tree_range.specs.Between.{data_under}
 use Rattle.tree_range.specs.Part.{times_in}
 use Rattle.tree_range.proofs.Local.{alike_below}
+use Rattle.tree_frame.proofs.Counting.{counted_alike}
 use Rattle.tree_frame.specs.Frame.{AreCurrent, IsEdit, TakesAtMost, leaves_below, tree_leaves, without_item}
 use Rattle.tree_delete.specs.Rows.{HasItemBelow, IsChildOf, IsLessNode, IsLessTree}
+use Rattle.tree_frame.proofs.EditLaws.{edits_join}
 use Rattle.tree_delete.proofs.Blocks.{IsGone}
 use Rattle.tree_delete.proofs.Deleting.{address_of}
-use Rattle.tree_delete.proofs.Edits.{IsWhole, carry, join_edits, takes_join, takes_more}
+use Rattle.tree_delete.proofs.Edits.{IsWhole, carry, takes_join, takes_more}
 use Rattle.tree_delete.proofs.Items.{rise_without}
 use Rattle.tree_delete.proofs.Pairs.{one_once}
-use Rattle.tree_delete.proofs.Rows.{as_root, leaves_alike, over_from, over_to}
+use Rattle.tree_delete.proofs.Rows.{as_root, over_from, over_to}
 use Rattle.tree_delete.proofs.Steps.{whole_of}
 
 -- what stands at the new root
@@ -124,7 +126,7 @@ module _ (level : ℕ) (old mid : Table) (tree : Tree) (key : Key) (root : ℕ) 
       let child : IsChildOf level mid p = All-head (IsChildOf level mid) p [] (subst (All (IsChildOf level mid)) one less.shape.children) in
       let leaves : leaves_below (suc level) mid root ≡ leaves_below level mid p.at = omega (arith, ap (sum_by n) one, sum_by-cons n p []) in
       let edit : IsEdit old new (tree_reach old tree) child_reach =
-      join_edits old mid new (tree_reach old tree) (root ∷ child_reach) child_reach (subst (λ (l : List ℕ). IsEdit old mid l (root ∷ child_reach)) (sym reach_is) (subst (λ (l : List ℕ). IsEdit old mid (reach_below (suc level) old tree.root.0) l) reach less.edit)) c.edit in
+      edits_join old mid new (tree_reach old tree) (root ∷ child_reach) child_reach (subst (λ (l : List ℕ). IsEdit old mid l (root ∷ child_reach)) (sym reach_is) (subst (λ (l : List ℕ). IsEdit old mid (reach_below (suc level) old tree.root.0) l) reach less.edit)) c.edit in
       let at_child : IsLessRoot level old new tree (record { root = record { 0 = p.at }; level = level; owner = tree.owner }) key = record {
         low = omega (arith, low, level_is);
         shape = below.shape true (as_root level mid p.at child.0);
@@ -133,7 +135,7 @@ module _ (level : ℕ) (old mid : Table) (tree : Tree) (key : Key) (root : ℕ) 
         once = subst NoneTwice (sym below.reach) c.whole.once;
         current = subst (AreCurrent new) (sym below.reach) c.whole.current;
         blocks = takes_more old new (2 * level + 2 + 0) 17 (omega (arith, low, level_is)) (takes_join old mid new (2 * level + 2) 0 less.blocks gone.blocks);
-        leaves = omega (arith, leaves_alike level mid new p.at c.alike, leaves, leaves_is);
+        leaves = omega (arith, (counted_alike level mid new p.at c.alike).leaves, leaves, leaves_is);
       } in
       moved level old new tree (record { root = record { 0 = p.at }; level = level; owner = tree.owner }) result key (sym root_is) at_child
 

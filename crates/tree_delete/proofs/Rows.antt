@@ -3,13 +3,13 @@ use Rattle.std.proofs.Common.{◌≡◌, ◌≤◌, ◌+◌, ℕ, zero, suc, Boo
 use Rattle.std.specs.Prelude.{All}
 use Rattle.std.specs.List.{flat_map, sum_by}
 use Rattle.std.proofs.lemmas.List.Concat.{flat_map-append}
-use Rattle.std.proofs.lemmas.List.Elements.{All-nil, All-cons, All-head, All-tail, All-append, All-same, All-weaker}
+use Rattle.std.proofs.lemmas.List.Elements.{All-nil, All-cons, All-head, All-tail, All-same, All-weaker}
 use Rattle.std.proofs.lemmas.List.Sums.{sum_by-append, sum_by-cons}
 use Rattle.blk_base.specs.declared.key.Key.{Key}
 use Rattle.blk_base.specs.Keys.{KeyBelow, keys_rise}
 use Rattle.blk_base.specs.Leaf.{Item, Pointer, node_body_of}
 use Rattle.block_table.specs.Table.{Table}
-use Rattle.block_table.specs.TreeIn.{IsTaken, ItemsRise, block_at, first_key, least_pointers}
+use Rattle.block_table.specs.TreeIn.{ItemsRise, block_at, first_key, least_pointers}
 use Rattle.leaf_view.specs.KeyOrder.{KeyBelow_trans}
 use Rattle.leaf_view.specs.Search.{pointer_keys}
 use Rattle.leaf_view.proofs.Rising.{key_below_from}
@@ -18,32 +18,9 @@ use Rattle.tree_range.specs.Between.{AreAbove, AreBelow}
 use Rattle.tree_range.specs.Path.{key_behind}
 use Rattle.tree_range.proofs.Local.{alike_below, node_pointers_alike, taken_alike}
 use Rattle.tree_range.proofs.Rise.{All-left, All-right, first_is, first_append, above_from_first, rise_before, rise_head, rise_right}
+use Rattle.tree_frame.proofs.Counting.{counted_alike}
 use Rattle.tree_frame.specs.Frame.{leaves_below}
 use Rattle.tree_delete.specs.Rows.{IsChildOf, IsNodeOver, row_items, row_leaves, row_reach}
-
--- ---- leaves
-
-leaves_same : (f g : Pointer → ℕ) (pointers : List Pointer) → All (λ (p : Pointer). f p ≡ g p) pointers → sum_by f pointers ≡ sum_by g pointers
-leaves_same f g [] h = refl
-leaves_same f g (p ∷ pointers) h =
-    omega (arith, sum_by-cons f p pointers, sum_by-cons g p pointers, All-head (λ (q : Pointer). f q ≡ g q) p pointers h, leaves_same f g pointers (All-tail (λ (q : Pointer). f q ≡ g q) p pointers h))
-
-all_parts : (P : ℕ → Type 0) (g : Pointer → List ℕ) (xs : List Pointer) → All P (flat_map g xs) → All (λ (x : Pointer). All P (g x)) xs
-all_parts P g [] h = All-nil (λ (x : Pointer). All P (g x))
-all_parts P g (x ∷ xs) h = All-cons (λ (y : Pointer). All P (g y)) x xs (All-left P (g x) (flat_map g xs) h) (all_parts P g xs (All-right P (g x) (flat_map g xs) h))
-
-pub leaves_alike : (level : ℕ) (old new : Table) (at : ℕ) → AreAlike old new (reach_below level old at) → leaves_below level new at ≡ leaves_below level old at
-leaves_alike zero old new at h = refl
-leaves_alike (suc level) old new at h =
-    let P : ℕ → Type 0 = λ (place : ℕ). block_at new place ≡ block_at old place in
-    let pointers = node_pointers old at in
-    let behind = row_reach level old pointers in
-    let same = node_pointers_alike old new at (All-head P at behind h) in
-    let parts = all_parts P (λ (pointer : Pointer). reach_below level old pointer.at) pointers (All-tail P at behind h) in
-    let f : Pointer → ℕ = λ (pointer : Pointer). leaves_below level new pointer.at in
-    let g : Pointer → ℕ = λ (pointer : Pointer). leaves_below level old pointer.at in
-    let each : All (λ (pointer : Pointer). f pointer ≡ g pointer) pointers = All-weaker (λ (pointer : Pointer). All P (reach_below level old pointer.at)) (λ (pointer : Pointer). f pointer ≡ g pointer) (λ pointer k. leaves_alike level old new pointer.at k) pointers parts in
-    ap (sum_by f) same ∙ leaves_same f g pointers each
 
 -- ---- rows in two tables that are alike there
 
@@ -72,7 +49,7 @@ row_alike level old new (p ∷ pointers) h =
     record {
       items = ap (λ (l : List Item). l ++ row_items level new pointers) below.items ∙ ap (λ (l : List Item). items_below level old p.at ++ l) others.items;
       reach = ap (λ (l : List ℕ). l ++ row_reach level new pointers) below.reach ∙ ap (λ (l : List ℕ). near ++ l) others.reach;
-      leaves = omega (arith, sum_by-cons f p pointers, sum_by-cons g p pointers, leaves_alike level old new p.at here, others.leaves);
+      leaves = omega (arith, sum_by-cons f p pointers, sum_by-cons g p pointers, (counted_alike level old new p.at here).leaves, others.leaves);
       children = λ all. All-cons (IsChildOf level new) p pointers (child_alike level old new p here (All-head (IsChildOf level old) p pointers all)) (others.children (All-tail (IsChildOf level old) p pointers all));
     }
 
@@ -196,15 +173,3 @@ row_before f g (p ∷ inner) others firsts firsts_behind rise =
     All-cons (λ (q : Pointer). All (λ (other : Pointer). KeyBelow q.key other.key) others) p inner
     (part_above p.key g others firsts_behind (All-right (λ (item : Item). KeyBelow p.key item.0) (flat_map f inner) (flat_map g others) above))
     (row_before f g inner others (All-tail (Begins f) p inner firsts) firsts_behind (rise_right (f p) (flat_map f inner ++ flat_map g others) rise'))
-
--- ---- each block that is reached is taken
-
-all_joined : (P : ℕ → Type 0) (g : Pointer → List ℕ) (xs : List Pointer) → All (λ (x : Pointer). All P (g x)) xs → All P (flat_map g xs)
-all_joined P g [] h = All-nil P
-all_joined P g (x ∷ xs) h = All-append P (g x) (flat_map g xs) (All-head (λ (y : Pointer). All P (g y)) x xs h) (all_joined P g xs (All-tail (λ (y : Pointer). All P (g y)) x xs h))
-
-pub reach_taken : (level : ℕ) (table : Table) (is_root : Bool) (at : ℕ) → IsSubtree level table is_root at → All (IsTaken table) (reach_below level table at)
-reach_taken zero table is_root at h = All-cons (IsTaken table) at [] h.0 (All-nil (IsTaken table))
-reach_taken (suc level) table is_root at h =
-    let g : Pointer → List ℕ = λ (pointer : Pointer). reach_below level table pointer.at in
-    All-cons (IsTaken table) at (flat_map g (node_pointers table at)) h.0 (all_joined (IsTaken table) g (node_pointers table at) (All-weaker (IsChildOf level table) (λ (pointer : Pointer). All (IsTaken table) (g pointer)) (λ pointer k. reach_taken level table false pointer.at k.0) (node_pointers table at) h.3))

@@ -13,11 +13,13 @@ use Rattle.tree_range.specs.Between.{AreAbove, AreBelow, data_under}
 use Rattle.tree_range.specs.Part.{times_in}
 use Rattle.tree_range.specs.Path.{IsChildPlace}
 use Rattle.tree_range.proofs.Rise.{All-left, All-right, first_append, rise_left, rise_right}
-use Rattle.tree_delete.proofs.Rows.{reach_taken}
 use Rattle.tree_frame.specs.Frame.{AreCurrent, IsEdit, leaves_below, without_item}
 use Rattle.tree_delete.specs.Rows.{HasItemBelow, IsChildOf, row_items, row_leaves, row_reach}
-use Rattle.tree_delete.proofs.Lists.{none_in, times_append, none_twice_from, none_twice_to}
-use Rattle.tree_delete.proofs.Edits.{IsCarried, IsWhole, carry, join_edits}
+use Rattle.tree_frame.proofs.EditLaws.{edits_join}
+use Rattle.tree_frame.proofs.Members.{in_nothing}
+use Rattle.tree_frame.proofs.Reading.{reach_taken}
+use Rattle.tree_delete.proofs.Lists.{times_append, none_twice_from, none_twice_to}
+use Rattle.tree_delete.proofs.Edits.{IsCarried, IsWhole, carry}
 use Rattle.tree_delete.proofs.Items.{under_between, without_between}
 use Rattle.tree_delete.proofs.Rows.{IsAlikeRow, firsts_of, lefts_below, leaves_cut, leaves_one, over_to, rights_above, row_alike, row_cut, row_one}
 
@@ -166,11 +168,11 @@ pub record IsNodeDone (level : ℕ) (old mid new : Table) (at result : ℕ) (key
 pub node_done : (level : ℕ) (old mid new : Table) (at result : ℕ) (key : Key) (row : List Pointer) → IsRowDone level old mid at key row → IsEdit mid new (at ∷ []) (result ∷ []) → node_pointers new result ≡ row → IsNodeDone level old mid new at result key row
 node_done level old mid new at result key row done edit is =
     let under = row_reach level mid row in
-    let carried = carry mid new (at ∷ []) (result ∷ []) under (at ∷ under) (result ∷ under) edit ((λ there. none_in result there), tt) done.whole (λ x. refl) (λ x. refl) in
+    let carried = carry mid new (at ∷ []) (result ∷ []) under (at ∷ under) (result ∷ under) edit ((λ there. in_nothing result there), tt) done.whole (λ x. refl) (λ x. refl) in
     let alike = row_alike level mid new row carried.alike in
     let reach : reach_below (suc level) new result ≡ result ∷ under = ap (λ (l : List ℕ). result ∷ l) (ap (row_reach level new) is ∙ alike.reach) in
     record {
-      edit = join_edits old mid new (reach_below (suc level) old at) (at ∷ under) (reach_below (suc level) new result) done.edit (subst (λ (l : List ℕ). IsEdit mid new (at ∷ under) l) (sym reach) carried.edit);
+      edit = edits_join old mid new (reach_below (suc level) old at) (at ∷ under) (reach_below (suc level) new result) done.edit (subst (λ (l : List ℕ). IsEdit mid new (at ∷ under) l) (sym reach) carried.edit);
       whole = subst (IsWhole new) (sym reach) carried.whole;
       items = ap (row_items level new) is ∙ alike.items ∙ done.items;
       leaves = omega (arith, ap (sum_by (λ (p : Pointer). leaves_below level new p.at)) is, alike.leaves, done.leaves);

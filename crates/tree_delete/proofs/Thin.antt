@@ -18,9 +18,10 @@ use Rattle.tree_blocks.specs.Steps.{IsDirtyNode, node_at}
 use Rattle.tree_frame.specs.Frame.{IsEdit, TakesAtMost}
 use Rattle.tree_delete.specs.Rows.{IsChildOf, IsLessNode, row_reach}
 use Rattle.tree_delete.specs.Steps.{HasPair, IsRepaired}
+use Rattle.tree_frame.proofs.EditLaws.{edits_join}
 use Rattle.tree_delete.proofs.Blocks.{node_same}
 use Rattle.tree_delete.proofs.Cuts.{at_within, cut_at, cut_same, length_cut, length_at}
-use Rattle.tree_delete.proofs.Edits.{IsWhole, join_edits, takes_join, takes_more}
+use Rattle.tree_delete.proofs.Edits.{IsWhole, takes_join, takes_more}
 use Rattle.tree_delete.proofs.Items.{rise_without}
 use Rattle.tree_delete.proofs.Nodes.{IsKid, IsKidPair, has_pair, kid_alike, kid_of, node_even}
 use Rattle.tree_delete.proofs.Deleting.{IsTurn, less_child, less_kid, less_node, turned}
@@ -148,7 +149,7 @@ repaired level taken old mid table new at result key lefts thin rights done h co
       count = omega (arith, count, even.count);
       items = even.items ∙ done.items;
       once = even.whole.once;
-      edit = join_edits old table new (reach_below (suc (suc level)) old at) (reach_below (suc (suc level)) table result) (reach_below (suc (suc level)) new result) done.edit even.edit;
+      edit = edits_join old table new (reach_below (suc (suc level)) old at) (reach_below (suc (suc level)) table result) (reach_below (suc (suc level)) new result) done.edit even.edit;
       blocks = takes_more old new (taken + 1) (2 * (suc level) + 2) few (takes_join old table new taken 1 blocks r.even.blocks);
       leaves = omega (arith, even.leaves, done.leaves);
     }

@@ -3,7 +3,7 @@ ghost use Rattle.block_table.specs.Table.{free_blocks};
 ghost use Rattle.tree_delete.specs.Rows.{HasItemBelow, IsLessNode};
 
 use crate::leaf::shrink_leaf;
-use crate::node::{change_child, child_place, drop_child};
+use crate::node::{LEAST_POINTERS, change_child, child_place, drop_child};
 use crate::pair::repair;
 use blk_base::{Addr, Key};
 use block_table::BlockTable;
@@ -43,10 +43,10 @@ pub(crate) fn delete_below(table: &mut BlockTable, level: u8, at: Addr, key: &Ke
     let child = node_child(table, at, place).0;
     let child = delete_below(table, level - 1, child, key);
     let first = node_key(table, child, 0);
-    let at = change_child(table, at, place, first, child);
-    if node_len(table, child) >= 30 {
-        return at;
+    let copy = change_child(table, at, place, first, child);
+    if node_len(table, child) >= LEAST_POINTERS {
+        return copy;
     }
-    repair(table, at, place);
-    at
+    repair(table, copy, place);
+    copy
 }

@@ -26,11 +26,11 @@ pub(crate) fn delete_in_leaf(table: &mut BlockTable, at: Addr, key: &Key) -> Add
     ensures edit { IsEdit table.old table.new (at.0 ∷ []) (result.0 ∷ []) }
     ensures blocks { TakesAtMost table.old table.new 1 }
 {
-    let at = own(table, at);
-    match leaf_find(table, at, key) {
+    let copy = own(table, at);
+    match leaf_find(table, copy, key) {
         Ok(place) => {
-            leaf_remove(table, at, place);
-            at
+            leaf_remove(table, copy, place);
+            copy
         }
         Err(_) => unreachable!(),
     }

@@ -11,3 +11,6 @@ mod pair;
 mod root;
 
 pub use root::delete;
+
+#[cfg(test)]
+mod tests;

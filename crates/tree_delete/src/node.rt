@@ -11,6 +11,15 @@ use blk_base::{Addr, Key};
 use block_table::BlockTable;
 use tree_blocks::{node_find, node_insert, node_remove, own};
 
+/// The most pointers of a node ("Internal Node").
+pub(crate) const MOST_POINTERS: usize = 121;
+
+/// The least pointers of a node that isn't the root (own).
+pub(crate) const LEAST_POINTERS: usize = 30;
+
+/// The least pointers of a root that is a node (own).
+pub(crate) const LEAST_IN_ROOT: usize = 2;
+
 /// The place of the child of a node under which a key belongs.
 pub(crate) fn child_place(table: &BlockTable, at: Addr, key: &Key) -> usize
     requires { IsCurrentNode table.now at.0 }
@@ -35,9 +44,9 @@ pub(crate) fn drop_child(table: &mut BlockTable, at: Addr, place: usize) -> Addr
     ensures edit { IsEdit table.old table.new (at.0 ∷ []) (result.0 ∷ []) }
     ensures blocks { TakesAtMost table.old table.new 1 }
 {
-    let at = own(table, at);
-    node_remove(table, at, place);
-    at
+    let copy = own(table, at);
+    node_remove(table, copy, place);
+    copy
 }
 
 /// Makes the pointer at a place of a node one to another child with its first key, and answers where the node stands then.
@@ -60,7 +69,7 @@ pub(crate) fn change_child(
     ensures edit { IsEdit table.old table.new (at.0 ∷ []) (result.0 ∷ []) }
     ensures blocks { TakesAtMost table.old table.new 1 }
 {
-    let at = drop_child(table, at, place);
-    node_insert(table, at, place, first, child, 0);
-    at
+    let copy = drop_child(table, at, place);
+    node_insert(table, copy, place, first, child, 0);
+    copy
 }

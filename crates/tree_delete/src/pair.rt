@@ -11,6 +11,7 @@ ghost use Rattle.tree_frame.specs.Frame.{IsEdit, TakesAtMost};
 ghost use Rattle.tree_delete.specs.Rows.{kept_of};
 ghost use Rattle.tree_delete.specs.Steps.{HasPair, IsDirtyPair, IsEven, IsOwnedPair, IsPair, IsRepaired, IsShared};
 
+use crate::node::MOST_POINTERS;
 use blk_base::Addr;
 use block_table::{BlockTable, SlotState};
 use tree_blocks::{
@@ -61,7 +62,7 @@ fn share(table: &mut BlockTable, left: Addr, right: Addr) -> (Addr, Option<Addr>
     let (left, right) = own_both(table, left, right);
     let left_len = node_len(table, left);
     let right_len = node_len(table, right);
-    if left_len + right_len <= 121 {
+    if left_len + right_len <= MOST_POINTERS {
         node_join(table, left, right);
         return (left, None);
     }

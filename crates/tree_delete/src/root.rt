@@ -7,6 +7,7 @@ ghost use Rattle.tree_delete.specs.Rows.{IsLessTree};
 
 use crate::below::delete_below;
 use crate::leaf::delete_in_leaf;
+use crate::node::LEAST_IN_ROOT;
 use blk_base::{Addr, Key};
 use block_table::{BlockTable, Tree};
 use tree_blocks::{node_child, node_len};
@@ -25,7 +26,7 @@ fn without(table: &mut BlockTable, tree: Tree, key: &Key) -> Tree
         return Tree { root, ..tree };
     }
     let root = delete_below(table, tree.level - 1, tree.root, key);
-    if node_len(table, root) > 1 {
+    if node_len(table, root) >= LEAST_IN_ROOT {
         return Tree { root, ..tree };
     }
     let child = node_child(table, root, 0).0;

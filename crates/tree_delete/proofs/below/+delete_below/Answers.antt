@@ -66,8 +66,8 @@ node_key-first-requires-clause-within t c =
     let less : IsLessNode level old mid c.node_child.result.0.0 c.delete_below-child.result.0 key = c.delete_below-child.ensures in
     omega (arith, node_some mid c.delete_below-child.result.0 (node_from_ok (block_at mid c.delete_below-child.result.0).bytes less.shape.body))
 
-pub change_child-at-requires-clause-node : goal.change_child-at-requires-clause-node
-change_child-at-requires-clause-node t c =
+pub change_child-copy-requires-clause-node : goal.change_child-copy-requires-clause-node
+change_child-copy-requires-clause-node t c =
     let old = c.args.table.now in
     let at = c.args.at.0 in
     let key = c.args.key.now in
@@ -84,8 +84,8 @@ change_child-at-requires-clause-node t c =
     let first : first_key (items_below (suc level) mid q.at) ≡ Some q.key = less_first level old mid p.at q.at key q.key less c.node_key-first.ensures in
     turn_node (suc level) old mid at key aim.lefts p aim.rights (q ∷ []) turn
 
-pub change_child-at-requires-clause-within : goal.change_child-at-requires-clause-within
-change_child-at-requires-clause-within t c =
+pub change_child-copy-requires-clause-within : goal.change_child-copy-requires-clause-within
+change_child-copy-requires-clause-within t c =
     let old = c.args.table.now in
     let at = c.args.at.0 in
     let key = c.args.key.now in
@@ -102,8 +102,8 @@ change_child-at-requires-clause-within t c =
     let first : first_key (items_below (suc level) mid q.at) ≡ Some q.key = less_first level old mid p.at q.at key q.key less c.node_key-first.ensures in
     omega (arith, turn_inside (suc level) old mid at key aim.lefts p aim.rights (q ∷ []) turn, aim.long)
 
-pub change_child-at-requires-clause-least : goal.change_child-at-requires-clause-least
-change_child-at-requires-clause-least t c =
+pub change_child-copy-requires-clause-least : goal.change_child-copy-requires-clause-least
+change_child-copy-requires-clause-least t c =
     let old = c.args.table.now in
     let at = c.args.at.0 in
     let key = c.args.key.now in
@@ -120,8 +120,8 @@ change_child-at-requires-clause-least t c =
     let first : first_key (items_below (suc level) mid q.at) ≡ Some q.key = less_first level old mid p.at q.at key q.key less c.node_key-first.ensures in
     turn_least (suc level) old mid at key aim.lefts p aim.rights (q ∷ []) turn
 
-pub change_child-at-requires-clause-order : goal.change_child-at-requires-clause-order
-change_child-at-requires-clause-order t c =
+pub change_child-copy-requires-clause-order : goal.change_child-copy-requires-clause-order
+change_child-copy-requires-clause-order t c =
     let old = c.args.table.now in
     let at = c.args.at.0 in
     let key = c.args.key.now in
@@ -154,10 +154,10 @@ node_len-requires-clause-taken t c =
     let q : Pointer = record { key = c.node_key-first.result; at = c.delete_below-child.result.0; generation = 0 } in
     let turn : IsTurn (suc level) old mid at key aim.lefts p aim.rights (q ∷ []) = record { below = below; way = aim.way; done = child_less level old mid key p q less } in
     let first : first_key (items_below (suc level) mid q.at) ≡ Some q.key = less_first level old mid p.at q.at key q.key less c.node_key-first.ensures in
-    let new = c.change_child-at.new.table in
-    let result = c.change_child-at.result.0 in
-    let pointers : node_at new result ≡ aim.lefts ++ q ∷ aim.rights = c.change_child-at.ensures.pointers ∙ ap (λ (n : ℕ). insert (remove (node_at mid at) n) n q) (sym aim.long) ∙ turn_inserted (suc level) old mid at key aim.lefts p aim.rights (q ∷ []) turn q in
-    let changed : IsChanged level old mid new at result key aim.lefts p aim.rights q = record { turn = turn; less = less; first = first; edit = c.change_child-at.ensures.edit; node = c.change_child-at.ensures.node; allowed = c.change_child-at.ensures.allowed; pointers = pointers } in
+    let new = c.change_child-copy.new.table in
+    let result = c.change_child-copy.result.0 in
+    let pointers : node_at new result ≡ aim.lefts ++ q ∷ aim.rights = c.change_child-copy.ensures.pointers ∙ ap (λ (n : ℕ). insert (remove (node_at mid at) n) n q) (sym aim.long) ∙ turn_inserted (suc level) old mid at key aim.lefts p aim.rights (q ∷ []) turn q in
+    let changed : IsChanged level old mid new at result key aim.lefts p aim.rights q = record { turn = turn; less = less; first = first; edit = c.change_child-copy.ensures.edit; node = c.change_child-copy.ensures.node; allowed = c.change_child-copy.ensures.allowed; pointers = pointers } in
     (changed_kid level old mid new at result key aim.lefts p aim.rights q changed).over.taken.taken
 
 pub node_len-requires-clause-node : goal.node_len-requires-clause-node
@@ -176,14 +176,14 @@ node_len-requires-clause-node t c =
     let q : Pointer = record { key = c.node_key-first.result; at = c.delete_below-child.result.0; generation = 0 } in
     let turn : IsTurn (suc level) old mid at key aim.lefts p aim.rights (q ∷ []) = record { below = below; way = aim.way; done = child_less level old mid key p q less } in
     let first : first_key (items_below (suc level) mid q.at) ≡ Some q.key = less_first level old mid p.at q.at key q.key less c.node_key-first.ensures in
-    let new = c.change_child-at.new.table in
-    let result = c.change_child-at.result.0 in
-    let pointers : node_at new result ≡ aim.lefts ++ q ∷ aim.rights = c.change_child-at.ensures.pointers ∙ ap (λ (n : ℕ). insert (remove (node_at mid at) n) n q) (sym aim.long) ∙ turn_inserted (suc level) old mid at key aim.lefts p aim.rights (q ∷ []) turn q in
-    let changed : IsChanged level old mid new at result key aim.lefts p aim.rights q = record { turn = turn; less = less; first = first; edit = c.change_child-at.ensures.edit; node = c.change_child-at.ensures.node; allowed = c.change_child-at.ensures.allowed; pointers = pointers } in
+    let new = c.change_child-copy.new.table in
+    let result = c.change_child-copy.result.0 in
+    let pointers : node_at new result ≡ aim.lefts ++ q ∷ aim.rights = c.change_child-copy.ensures.pointers ∙ ap (λ (n : ℕ). insert (remove (node_at mid at) n) n q) (sym aim.long) ∙ turn_inserted (suc level) old mid at key aim.lefts p aim.rights (q ∷ []) turn q in
+    let changed : IsChanged level old mid new at result key aim.lefts p aim.rights q = record { turn = turn; less = less; first = first; edit = c.change_child-copy.ensures.edit; node = c.change_child-copy.ensures.node; allowed = c.change_child-copy.ensures.allowed; pointers = pointers } in
     node_from_ok (block_at new q.at).bytes (changed_kid level old mid new at result key aim.lefts p aim.rights q changed).over.body
 
-pub returns-then-node_len-ge30 : goal.returns-then-node_len-ge30
-returns-then-node_len-ge30 t c =
+pub returns-then-node_len-ge-LEAST_POINTERS : goal.returns-then-node_len-ge-LEAST_POINTERS
+returns-then-node_len-ge-LEAST_POINTERS t c =
     let old = c.args.table.now in
     let at = c.args.at.0 in
     let key = c.args.key.now in
@@ -198,12 +198,12 @@ returns-then-node_len-ge30 t c =
     let q : Pointer = record { key = c.node_key-first.result; at = c.delete_below-child.result.0; generation = 0 } in
     let turn : IsTurn (suc level) old mid at key aim.lefts p aim.rights (q ∷ []) = record { below = below; way = aim.way; done = child_less level old mid key p q less } in
     let first : first_key (items_below (suc level) mid q.at) ≡ Some q.key = less_first level old mid p.at q.at key q.key less c.node_key-first.ensures in
-    let new = c.change_child-at.new.table in
-    let result = c.change_child-at.result.0 in
-    let pointers : node_at new result ≡ aim.lefts ++ q ∷ aim.rights = c.change_child-at.ensures.pointers ∙ ap (λ (n : ℕ). insert (remove (node_at mid at) n) n q) (sym aim.long) ∙ turn_inserted (suc level) old mid at key aim.lefts p aim.rights (q ∷ []) turn q in
-    let changed : IsChanged level old mid new at result key aim.lefts p aim.rights q = record { turn = turn; less = less; first = first; edit = c.change_child-at.ensures.edit; node = c.change_child-at.ensures.node; allowed = c.change_child-at.ensures.allowed; pointers = pointers } in
-    let full : 30 ≤ length (node_pointers new q.at) = omega (arith, c.node_len.ensures.value, c.if-node_len-ge30.true, ap (λ (l : List Pointer). length l) (node_same new q.at)) in
-    subst (λ (n : ℕ). IsLessNode n old new at result key) (sym one) (changed_full level old mid new at result key aim.lefts p aim.rights q changed (2 * level + 2) less.blocks c.change_child-at.ensures.blocks (omega arith) full)
+    let new = c.change_child-copy.new.table in
+    let result = c.change_child-copy.result.0 in
+    let pointers : node_at new result ≡ aim.lefts ++ q ∷ aim.rights = c.change_child-copy.ensures.pointers ∙ ap (λ (n : ℕ). insert (remove (node_at mid at) n) n q) (sym aim.long) ∙ turn_inserted (suc level) old mid at key aim.lefts p aim.rights (q ∷ []) turn q in
+    let changed : IsChanged level old mid new at result key aim.lefts p aim.rights q = record { turn = turn; less = less; first = first; edit = c.change_child-copy.ensures.edit; node = c.change_child-copy.ensures.node; allowed = c.change_child-copy.ensures.allowed; pointers = pointers } in
+    let full : 30 ≤ length (node_pointers new q.at) = omega (arith, c.node_len.ensures.value, c.if-node_len-ge-LEAST_POINTERS.true, ap (λ (l : List Pointer). length l) (node_same new q.at)) in
+    subst (λ (n : ℕ). IsLessNode n old new at result key) (sym one) (changed_full level old mid new at result key aim.lefts p aim.rights q changed (2 * level + 2) less.blocks c.change_child-copy.ensures.blocks (omega arith) full)
 
 pub repair-requires-clause-within : goal.repair-requires-clause-within
 repair-requires-clause-within t c =
@@ -221,10 +221,10 @@ repair-requires-clause-within t c =
     let q : Pointer = record { key = c.node_key-first.result; at = c.delete_below-child.result.0; generation = 0 } in
     let turn : IsTurn (suc level) old mid at key aim.lefts p aim.rights (q ∷ []) = record { below = below; way = aim.way; done = child_less level old mid key p q less } in
     let first : first_key (items_below (suc level) mid q.at) ≡ Some q.key = less_first level old mid p.at q.at key q.key less c.node_key-first.ensures in
-    let new = c.change_child-at.new.table in
-    let result = c.change_child-at.result.0 in
-    let pointers : node_at new result ≡ aim.lefts ++ q ∷ aim.rights = c.change_child-at.ensures.pointers ∙ ap (λ (n : ℕ). insert (remove (node_at mid at) n) n q) (sym aim.long) ∙ turn_inserted (suc level) old mid at key aim.lefts p aim.rights (q ∷ []) turn q in
-    let changed : IsChanged level old mid new at result key aim.lefts p aim.rights q = record { turn = turn; less = less; first = first; edit = c.change_child-at.ensures.edit; node = c.change_child-at.ensures.node; allowed = c.change_child-at.ensures.allowed; pointers = pointers } in
+    let new = c.change_child-copy.new.table in
+    let result = c.change_child-copy.result.0 in
+    let pointers : node_at new result ≡ aim.lefts ++ q ∷ aim.rights = c.change_child-copy.ensures.pointers ∙ ap (λ (n : ℕ). insert (remove (node_at mid at) n) n q) (sym aim.long) ∙ turn_inserted (suc level) old mid at key aim.lefts p aim.rights (q ∷ []) turn q in
+    let changed : IsChanged level old mid new at result key aim.lefts p aim.rights q = record { turn = turn; less = less; first = first; edit = c.change_child-copy.ensures.edit; node = c.change_child-copy.ensures.node; allowed = c.change_child-copy.ensures.allowed; pointers = pointers } in
     omega (arith, changed_inside level old mid new at result key aim.lefts p aim.rights q changed, aim.long)
 
 pub repair-requires-clause-least : goal.repair-requires-clause-least
@@ -243,10 +243,10 @@ repair-requires-clause-least t c =
     let q : Pointer = record { key = c.node_key-first.result; at = c.delete_below-child.result.0; generation = 0 } in
     let turn : IsTurn (suc level) old mid at key aim.lefts p aim.rights (q ∷ []) = record { below = below; way = aim.way; done = child_less level old mid key p q less } in
     let first : first_key (items_below (suc level) mid q.at) ≡ Some q.key = less_first level old mid p.at q.at key q.key less c.node_key-first.ensures in
-    let new = c.change_child-at.new.table in
-    let result = c.change_child-at.result.0 in
-    let pointers : node_at new result ≡ aim.lefts ++ q ∷ aim.rights = c.change_child-at.ensures.pointers ∙ ap (λ (n : ℕ). insert (remove (node_at mid at) n) n q) (sym aim.long) ∙ turn_inserted (suc level) old mid at key aim.lefts p aim.rights (q ∷ []) turn q in
-    let changed : IsChanged level old mid new at result key aim.lefts p aim.rights q = record { turn = turn; less = less; first = first; edit = c.change_child-at.ensures.edit; node = c.change_child-at.ensures.node; allowed = c.change_child-at.ensures.allowed; pointers = pointers } in
+    let new = c.change_child-copy.new.table in
+    let result = c.change_child-copy.result.0 in
+    let pointers : node_at new result ≡ aim.lefts ++ q ∷ aim.rights = c.change_child-copy.ensures.pointers ∙ ap (λ (n : ℕ). insert (remove (node_at mid at) n) n q) (sym aim.long) ∙ turn_inserted (suc level) old mid at key aim.lefts p aim.rights (q ∷ []) turn q in
+    let changed : IsChanged level old mid new at result key aim.lefts p aim.rights q = record { turn = turn; less = less; first = first; edit = c.change_child-copy.ensures.edit; node = c.change_child-copy.ensures.node; allowed = c.change_child-copy.ensures.allowed; pointers = pointers } in
     changed_least level old mid new at result key aim.lefts p aim.rights q changed
 
 pub repair-requires-clause-pairs : goal.repair-requires-clause-pairs
@@ -265,11 +265,11 @@ repair-requires-clause-pairs t c =
     let q : Pointer = record { key = c.node_key-first.result; at = c.delete_below-child.result.0; generation = 0 } in
     let turn : IsTurn (suc level) old mid at key aim.lefts p aim.rights (q ∷ []) = record { below = below; way = aim.way; done = child_less level old mid key p q less } in
     let first : first_key (items_below (suc level) mid q.at) ≡ Some q.key = less_first level old mid p.at q.at key q.key less c.node_key-first.ensures in
-    let new = c.change_child-at.new.table in
-    let result = c.change_child-at.result.0 in
-    let pointers : node_at new result ≡ aim.lefts ++ q ∷ aim.rights = c.change_child-at.ensures.pointers ∙ ap (λ (n : ℕ). insert (remove (node_at mid at) n) n q) (sym aim.long) ∙ turn_inserted (suc level) old mid at key aim.lefts p aim.rights (q ∷ []) turn q in
-    let changed : IsChanged level old mid new at result key aim.lefts p aim.rights q = record { turn = turn; less = less; first = first; edit = c.change_child-at.ensures.edit; node = c.change_child-at.ensures.node; allowed = c.change_child-at.ensures.allowed; pointers = pointers } in
-    let few : length (node_pointers new q.at) ≤ 29 = omega (arith, c.node_len.ensures.value, c.if-node_len-ge30.false, ap (λ (l : List Pointer). length l) (node_same new q.at)) in
+    let new = c.change_child-copy.new.table in
+    let result = c.change_child-copy.result.0 in
+    let pointers : node_at new result ≡ aim.lefts ++ q ∷ aim.rights = c.change_child-copy.ensures.pointers ∙ ap (λ (n : ℕ). insert (remove (node_at mid at) n) n q) (sym aim.long) ∙ turn_inserted (suc level) old mid at key aim.lefts p aim.rights (q ∷ []) turn q in
+    let changed : IsChanged level old mid new at result key aim.lefts p aim.rights q = record { turn = turn; less = less; first = first; edit = c.change_child-copy.ensures.edit; node = c.change_child-copy.ensures.node; allowed = c.change_child-copy.ensures.allowed; pointers = pointers } in
+    let few : length (node_pointers new q.at) ≤ 29 = omega (arith, c.node_len.ensures.value, c.if-node_len-ge-LEAST_POINTERS.false, ap (λ (l : List Pointer). length l) (node_same new q.at)) in
     let pairs = thin_pairs level new result aim.lefts q aim.rights (changed_thin level old mid new at result key aim.lefts p aim.rights q changed few) in
     subst (λ (n : ℕ). (left : ℕ) → (left ≡ n) ⊎ (left + 1 ≡ n) → left + 1 < length (node_at new result) → HasPair new result left) aim.long pairs
 
@@ -289,10 +289,10 @@ returns t c =
     let q : Pointer = record { key = c.node_key-first.result; at = c.delete_below-child.result.0; generation = 0 } in
     let turn : IsTurn (suc level) old mid at key aim.lefts p aim.rights (q ∷ []) = record { below = below; way = aim.way; done = child_less level old mid key p q less } in
     let first : first_key (items_below (suc level) mid q.at) ≡ Some q.key = less_first level old mid p.at q.at key q.key less c.node_key-first.ensures in
-    let new = c.change_child-at.new.table in
-    let result = c.change_child-at.result.0 in
-    let pointers : node_at new result ≡ aim.lefts ++ q ∷ aim.rights = c.change_child-at.ensures.pointers ∙ ap (λ (n : ℕ). insert (remove (node_at mid at) n) n q) (sym aim.long) ∙ turn_inserted (suc level) old mid at key aim.lefts p aim.rights (q ∷ []) turn q in
-    let changed : IsChanged level old mid new at result key aim.lefts p aim.rights q = record { turn = turn; less = less; first = first; edit = c.change_child-at.ensures.edit; node = c.change_child-at.ensures.node; allowed = c.change_child-at.ensures.allowed; pointers = pointers } in
-    let few : length (node_pointers new q.at) ≤ 29 = omega (arith, c.node_len.ensures.value, c.if-node_len-ge30.false, ap (λ (l : List Pointer). length l) (node_same new q.at)) in
+    let new = c.change_child-copy.new.table in
+    let result = c.change_child-copy.result.0 in
+    let pointers : node_at new result ≡ aim.lefts ++ q ∷ aim.rights = c.change_child-copy.ensures.pointers ∙ ap (λ (n : ℕ). insert (remove (node_at mid at) n) n q) (sym aim.long) ∙ turn_inserted (suc level) old mid at key aim.lefts p aim.rights (q ∷ []) turn q in
+    let changed : IsChanged level old mid new at result key aim.lefts p aim.rights q = record { turn = turn; less = less; first = first; edit = c.change_child-copy.ensures.edit; node = c.change_child-copy.ensures.node; allowed = c.change_child-copy.ensures.allowed; pointers = pointers } in
+    let few : length (node_pointers new q.at) ≤ 29 = omega (arith, c.node_len.ensures.value, c.if-node_len-ge-LEAST_POINTERS.false, ap (λ (l : List Pointer). length l) (node_same new q.at)) in
     let r : IsRepaired new c.repair.new.table result (length aim.lefts) = subst (λ (n : ℕ). IsRepaired new c.repair.new.table result n) (sym aim.long) c.repair.ensures in
-    subst (λ (n : ℕ). IsLessNode n old c.repair.new.table at result key) (sym one) (changed_repaired level old mid new at result key aim.lefts p aim.rights q changed c.repair.new.table (2 * level + 2) less.blocks c.change_child-at.ensures.blocks (omega arith) few r)
+    subst (λ (n : ℕ). IsLessNode n old c.repair.new.table at result key) (sym one) (changed_repaired level old mid new at result key aim.lefts p aim.rights q changed c.repair.new.table (2 * level + 2) less.blocks c.change_child-copy.ensures.blocks (omega arith) few r)
