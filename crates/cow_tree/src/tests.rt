@@ -11,7 +11,7 @@ use std::test::Fail;
 use tree_blocks::new_leaf;
 use tree_range::{get, is_tree};
 
-fn key_of(offset: u64) -> Key {
+pub(crate) fn key_of(offset: u64) -> Key {
     Key {
         objectid: 256,
         kind: 96,
@@ -20,7 +20,7 @@ fn key_of(offset: u64) -> Key {
 }
 
 /// A tree of one leaf without items.
-fn empty_tree(rt: &impl Abort, table: &mut BlockTable) -> Tree
+pub(crate) fn empty_tree(rt: &impl Abort, table: &mut BlockTable) -> Tree
     ensures tree { IsTree table.new result }
     ensures current { AreCurrent table.new (tree_reach table.new result) }
 {
@@ -36,14 +36,20 @@ fn empty_tree(rt: &impl Abort, table: &mut BlockTable) -> Tree
 }
 
 /// Whether the table has what an edit needs.
-fn has_room(table: &BlockTable) -> bool
+pub(crate) fn has_room(table: &BlockTable) -> bool
     ensures spare { IsTrue result → 17 ≤ table.now.spare }
     ensures free { IsTrue result → 17 ≤ free_blocks table.now }
 {
     table.spare() >= 17 && table.free_count() >= 17
 }
 
-fn put_one(rt: &impl Abort, table: &mut BlockTable, tree: &mut Tree, offset: u64, bytes: &[u8])
+pub(crate) fn put_one(
+    rt: &impl Abort,
+    table: &mut BlockTable,
+    tree: &mut Tree,
+    offset: u64,
+    bytes: &[u8],
+)
     requires tree { IsTree table.old tree.old }
     requires current { AreCurrent table.old (tree_reach table.old tree.old) }
     ensures tree { IsTree table.new tree.new }
