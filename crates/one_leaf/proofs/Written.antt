@@ -63,6 +63,9 @@ map_twice : {X Y Z : Type 0} (g : Y → Z) (f : X → Y) (xs : List X) → map g
 map_twice g f [] = refl
 map_twice g f (x ∷ xs) = ap (λ l. g (f x) ∷ l) (map_twice g f xs)
 
+cons_some : {X : Type 0} (x : X) (xs : List X) → x ∷ xs ≢ []
+cons_some x xs e = cc
+
 rise_filter : {X : Type 0} (R : X → X → Type 0) (p : X → Bool) (xs : List X) → Rise R xs → Rise R (filter p xs)
 rise_filter R p [] rise = tt
 rise_filter {X} R p (x ∷ xs) rise = go (rise_filter R p xs rise.1) (p x)
@@ -318,30 +321,33 @@ module _ (sub : Subvolume) (coherent : IsCoherent sub) (small : IsSmallSub sub) 
         go : (b : Bool) → name.near ≡ b
             → IsAsked sub blocks (cond b (make_key name.ino inode_ref name.dir) (make_key name.ino inode_extref (extref_hash_of name.dir name.bytes))) (cond b (ref_bytes (ref_of name)) (extref_bytes (extref_of name)))
         go true near =
+            let index = (coherent.index_numbers name c).1 in
+            let fits_index : name.index < 2 ^ 64 = omega arith in
             let p : FlatName → Bool = λ n. n.near && (nat_eq n.ino name.ino && nat_eq n.dir name.dir) in
             let passes : p name ≡ true = (λ i. near i && (eq-eqb name.ino name.ino refl i && eq-eqb name.dir name.dir refl i)) in
             let alone : filter p sub.names ≡ name ∷ [] = name_alone sub coherent small ino name p is (λ x h. eq-eqb x.ino ino (eqb-true x.ino name.ino (and_parts _ _ (and_parts _ _ h).1).0 ∙ leads)) passes in
             let asked : ref_of name ∷ [] ≡ refs_asked sub name.ino name.dir =
             sym ((λ i. cond (ne_eqb name.ino 256 (λ e. other (sym leads ∙ e)) i && nat_eq name.dir 256) (record { index = 0; name = dots } ∷ []) [] ++ map ref_of (alone i)) ∙ refl) in
-            let index = (coherent.index_numbers name c).1 in
             RefsAsked (ref_of name ∷ []) refl (record {
-              some = λ e. absurd cc;
+              some = cons_some (ref_of name) [];
               spelled = sym (append-nil (ref_bytes (ref_of name)));
-              indexes = (omega arith, tt);
+              indexes = (fits_index, tt);
               names = (inl (coherent.name_limits name c).0, tt);
             }) (subst (IsPermutation (ref_of name ∷ [])) asked (IsPermutation-refl _))
         go false far =
+            let index = (coherent.index_numbers name c).1 in
+            let dir = in_root sub coherent small name c in
+            let fits_index : name.index < 2 ^ 64 = omega arith in
+            let fits_dir : name.dir < 2 ^ 64 = omega arith in
             let hash = extref_hash_of name.dir name.bytes in
             let p : FlatName → Bool = λ n. not n.near && (nat_eq n.ino name.ino && nat_eq (extref_hash_of n.dir n.bytes) hash) in
             let passes : p name ≡ true = (λ i. not (far i) && (eq-eqb name.ino name.ino refl i && eq-eqb hash hash refl i)) in
             let alone : filter p sub.names ≡ name ∷ [] = name_alone sub coherent small ino name p is (λ x h. eq-eqb x.ino ino (eqb-true x.ino name.ino (and_parts _ _ (and_parts _ _ h).1).0 ∙ leads)) passes in
             let asked : extref_of name ∷ [] ≡ extrefs_asked sub name.ino hash = sym (ap (map extref_of) alone) in
-            let index = (coherent.index_numbers name c).1 in
-            let dir = in_root sub coherent small name c in
             ExtRefsAsked (extref_of name ∷ []) refl (record {
-              some = λ e. absurd cc;
+              some = cons_some (extref_of name) [];
               spelled = sym (append-nil (extref_bytes (extref_of name)));
-              numbers = ((omega arith, omega arith), tt);
+              numbers = ((fits_dir, fits_index), tt);
               names = ((coherent.name_limits name c).0, tt);
             }) (subst (IsPermutation (extref_of name ∷ [])) asked (IsPermutation-refl _))
 
