@@ -4,11 +4,11 @@ pub mod Bodies
 pub mod Law
 pub mod Local
 pub mod Ways
-mod Cuts
-mod Children
+pub mod Cuts
+pub mod Children
 mod Found
 mod Spots
 mod Looked
 mod Walked
 mod Parts
-mod Times
+pub mod Times

@@ -18,23 +18,23 @@ use Rattle.tree_range.proofs.Children.{child_of}
 use Rattle.tree_range.proofs.Cuts.{mapped_at}
 use Rattle.tree_range.proofs.Law.{Child}
 
-times_append : (at : ℕ) (xs ys : List ℕ) → times_in at (xs ++ ys) ≡ times_in at xs + times_in at ys
+pub times_append : (at : ℕ) (xs ys : List ℕ) → times_in at (xs ++ ys) ≡ times_in at xs + times_in at ys
 times_append at [] ys = omega arith
 times_append at (x ∷ xs) ys = omega (arith, times_append at xs ys)
 
-times_cons : (at x : ℕ) (xs : List ℕ) (b : Bool) → (x == at) ≡ b → times_in at (x ∷ xs) ≡ (if b then 1 else 0) + times_in at xs
+pub times_cons : (at x : ℕ) (xs : List ℕ) (b : Bool) → (x == at) ≡ b → times_in at (x ∷ xs) ≡ (if b then 1 else 0) + times_in at xs
 times_cons at x xs b h = ap (λ (b' : Bool). (if b' then 1 else 0) + times_in at xs) h
 
 contains_more : (x y : ℕ) (xs : List ℕ) → Contains xs y → Contains (x ∷ xs) y
 contains_more x y xs h = (suc h.0, omega (arith, h.1), h.2)
 
 -- an address that stands in a list
-times_contained : (at : ℕ) (xs : List ℕ) (place : ℕ) → place < length xs → slice_get xs place ≡ Some at → 1 ≤ times_in at xs
+pub times_contained : (at : ℕ) (xs : List ℕ) (place : ℕ) → place < length xs → slice_get xs place ≡ Some at → 1 ≤ times_in at xs
 times_contained at [] place inside is = absurd (omega arith)
 times_contained at (x ∷ xs) zero inside is = let same : x ≡ at = cc in omega (arith, times_cons at x xs true (eq-eqb x at same))
 times_contained at (x ∷ xs) (suc place) inside is = omega (arith, times_contained at xs place (omega arith) is)
 
-contained_by_times : (at : ℕ) (xs : List ℕ) → 1 ≤ times_in at xs → Contains xs at
+pub contained_by_times : (at : ℕ) (xs : List ℕ) → 1 ≤ times_in at xs → Contains xs at
 contained_by_times at [] h = absurd (omega arith)
 contained_by_times at (x ∷ xs) h = elim (cases_Bool (x == at)) [
   | inl same ↦ (0, omega arith, eqb-true x at same)

@@ -1,0 +1,15 @@
+pub mod Changes
+pub mod Steps
+pub mod Items
+pub mod Pointers
+pub mod Leaves
+pub mod Nodes
+pub mod Lists
+pub mod Alike
+pub mod Sides
+pub mod Cut
+pub mod Finish
+pub mod Base
+pub mod Below
+pub mod Frame
+pub mod Root

@@ -1,0 +1,11 @@
+use Rattle.std.proofs.Common.{refl}
+use Rattle.leaf_image.proofs.tests.needed.Goals as goal
+
+pub is_one_leaf-requires : goal.is_one_leaf-requires
+is_one_leaf-requires c = c.if-not-coherent.ensures.0 refl
+
+pub blocks_needed-requires-clause-coherent : goal.blocks_needed-requires-clause-coherent
+blocks_needed-requires-clause-coherent c = c.if-not-coherent.ensures.0 refl
+
+pub blocks_needed-requires-clause-one_leaf : goal.blocks_needed-requires-clause-one_leaf
+blocks_needed-requires-clause-one_leaf c = c.if-not-is_one_leaf.ensures.0 refl

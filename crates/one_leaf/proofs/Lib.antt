@@ -1,0 +1,15 @@
+pub mod RisingKeys
+pub mod SmallSubs
+pub mod Membership
+pub mod KeysRising
+pub mod KeyLaw
+pub mod Sums
+pub mod LeafSizes
+pub mod Written
+pub mod Loops
+pub mod Volumes
+pub mod Fronts
+pub mod Least
+pub mod Entries
+pub mod FileItems
+pub mod WholeLeaf

@@ -1,0 +1,15 @@
+pub mod Cuts
+pub mod Lists
+pub mod Edits
+pub mod Blocks
+pub mod Items
+pub mod Places
+pub mod Rows
+pub mod Steps
+pub mod Pairs
+pub mod Even
+pub mod Nodes
+pub mod Leaves
+pub mod Deleting
+pub mod Thin
+pub mod Roots
