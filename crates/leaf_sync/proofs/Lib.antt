@@ -1,0 +1,5 @@
+pub mod Lists
+pub mod Images
+pub mod Commits
+pub mod FreeBlocks
+pub mod Syncs
