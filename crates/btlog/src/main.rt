@@ -30,10 +30,13 @@ IMAGE is a file with the image of a volume. Commands, and what they print:
     FSID is a uuid, as 00000000-0000-0000-0000-000000000001
     BLOCKS is 4096 to 65536, in blocks of 4096 bytes; SUBS is 1
     an image that isn't there is made
+  list                    shows what a volume has     its listing
+    the volume has to stand in one leaf
 
 Other answers, and the exit status of each:
   0  the command was done
   1  usage    the words are no command
+  3  volume   the image has no volume in one leaf; what is wrong stands behind the word
   4  disk     the image can't be opened or made, or the disk failed
   6           standard output failed
   7  memory   no memory

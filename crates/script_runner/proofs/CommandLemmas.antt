@@ -1,5 +1,6 @@
 -- The three words of `mkfs` and what they say.
-use Rattle.std.proofs.Common.{◌≡◌, ◌≤◌, ◌<◌, ◌∷◌, [], ℕ, List, String, length, drop, codes, string_bytes, slice_index_or, Option, Some, None, IfSome, ap, sym, ◌∙◌, subst, arith}
+use Rattle.std.proofs.Common.{◌≡◌, ◌≤◌, ◌<◌, ◌↔◌, ◌∷◌, [], ℕ, Bool, IsTrue, nat_eq, List, String, length, drop, codes, string_bytes, slice_index_or, Option, Some, None, IfSome, ap, sym, ◌∙◌, subst, arith}
+use Rattle.std.specs.Cmp.Lexicographic.{bytes_decides, pointwise}
 use Rattle.disk_model.specs.Disk.{IfTold}
 use Rattle.script_runner.specs.Words.{IsNumber}
 use Rattle.script_runner.specs.Commands.{AreInRange, AsksForBlocks, IsMkfs, IsOutOfRange, bytes_of}
@@ -34,6 +35,20 @@ four_words (a ∷ b ∷ []) one two three four least most first second third fou
 four_words (a ∷ b ∷ c ∷ []) one two three four least most first second third fourth = absurd (omega (arith, least))
 four_words (a ∷ b ∷ c ∷ d ∷ []) one two three four least most first second third fourth = cc
 four_words (a ∷ b ∷ c ∷ d ∷ e ∷ words) one two three four least most first second third fourth = absurd (omega (arith, most))
+
+-- the word of a list of one
+pub one_word : {A : Type 0} (words : List (String A)) (command : String A) (text : List ℕ) → 1 ≤ length words → length words < 2 → command ≡ slice_index_or words 0 command → text ≡ string_bytes command
+    → bytes_of words ≡ text ∷ []
+one_word [] command text least most first is = absurd (omega (arith, least))
+one_word (a ∷ []) command text least most first is = ap (λ (it : List ℕ). it ∷ []) (sym (is ∙ ap string_bytes first))
+one_word (a ∷ b ∷ words) command text least most first is = absurd (omega (arith, most))
+
+-- whether the one word is this
+pub is_word : (words : List (List ℕ)) (text word : List ℕ) (test : Bool) → words ≡ text ∷ [] → test ≡ pointwise nat_eq text word → IsTrue test ↔ (words ≡ word ∷ [])
+is_word words text word test one is = (
+  λ pass. one ∙ ap (λ (it : List ℕ). it ∷ []) ((bytes_decides text word).0 (sym is ∙ pass)),
+  λ same. is ∙ (bytes_decides text word).1 (ap (λ (all : List (List ℕ)). slice_index_or all 0 []) (sym one ∙ same)),
+)
 
 -- the words are `mkfs` and these three
 pub is_mkfs : {A : Type 0} (words : List (String A)) (command fsid blocks subs : String A) (command_text fsid_text blocks_text subs_text : List ℕ) → 4 ≤ length words → length words < 5

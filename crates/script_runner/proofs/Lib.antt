@@ -4,4 +4,5 @@ pub mod SinkLemmas
 pub mod CrashLemmas
 pub mod VolumeLemmas
 pub mod CommandLemmas
+pub mod AnswerLemmas
 pub mod ItemLemmas

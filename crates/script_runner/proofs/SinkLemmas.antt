@@ -1,5 +1,7 @@
 -- What a sink has taken, piece behind piece.
-use Rattle.std.proofs.Common.{◌+◌, ◌++◌, ℕ, List, length, take, drop, Option, Some, None, Result, Ok, Err, OnErr, length-append, take_all, append_assoc, sym, ◌∙◌, ap, subst, arith}
+use Rattle.std.proofs.Common.{◌≡◌, ◌<◌, ◌+◌, ◌++◌, ℕ, suc, List, length, take, drop, slice_index_or, Option, Some, None, Result, Ok, Err, OnErr, length-append, take_all, append_assoc, drop-cons, sym, ◌∙◌, ap, subst, arith}
+use Rattle.std.specs.List.{flat_map}
+use Rattle.std.proofs.lemmas.Grind.{flat_map-append}
 use Rattle.std.proofs.lemmas.List.{take-append-drop, take-append-le}
 use Rattle.std.proofs.Math.Seq.{take-append-add, take-add}
 use Rattle.io_edge.specs.Edge.{Takes, TakesFront}
@@ -53,7 +55,19 @@ pub on_err : {T E : Type 0} (result : Result T E) (P : Type 0) → P → OnErr r
 on_err (Ok value) P holds = tt
 on_err (Err error) P holds = holds
 
--- what follows from what holds at an error holds at one
-pub on_err_weaker : {T E : Type 0} (result : Result T E) (P Q : Type 0) → (P → Q) → OnErr result P → OnErr result Q
-on_err_weaker (Ok value) P Q weaker holds = tt
-on_err_weaker (Err error) P Q weaker holds = weaker holds
+-- texts one behind the other, up to the one at a place, that one, and those behind it
+flat_map-at : {X : Type 0} (f : X → List ℕ) (xs : List X) (place : ℕ) (default : X) → place < length xs
+    → (flat_map f (take place xs) ++ f (slice_index_or xs place default)) ++ flat_map f (drop (suc place) xs) ≡ flat_map f xs
+flat_map-at f xs place default within =
+    let rest : flat_map f (drop place xs) ≡ f (slice_index_or xs place default) ++ flat_map f (drop (suc place) xs) = ap (flat_map f) (drop-cons xs place default within) in
+    append_assoc (flat_map f (take place xs)) (f (slice_index_or xs place default)) (flat_map f (drop (suc place) xs))
+    ∙ ap (λ (more : List ℕ). flat_map f (take place xs) ++ more) (sym rest)
+    ∙ sym (flat_map-append f (take place xs) (drop place xs)) ∙ ap (flat_map f) (take-append-drop place xs)
+
+-- a front of the text at a place, behind those before it
+pub TakesFront-at : {X : Type 0} (f : X → List ℕ) (xs : List X) (place : ℕ) (default : X) (old mid new : Option (List ℕ)) (text : List ℕ) → place < length xs → text ≡ f (slice_index_or xs place default)
+    → Takes old (flat_map f (take place xs)) mid → TakesFront mid text new → TakesFront old (flat_map f xs) new
+TakesFront-at f xs place default old mid new text within is first second =
+    let here : TakesFront mid (f (slice_index_or xs place default)) new = subst (λ (bytes : List ℕ). TakesFront mid bytes new) is second in
+    subst (λ (bytes : List ℕ). TakesFront old bytes new) (flat_map-at f xs place default within)
+    (TakesFront-more old new (flat_map f (take place xs) ++ f (slice_index_or xs place default)) (flat_map f (drop (suc place) xs)) (TakesFront-behind old mid new (flat_map f (take place xs)) (f (slice_index_or xs place default)) first here))

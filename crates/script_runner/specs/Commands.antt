@@ -1,8 +1,19 @@
 -- Commands, when each of their answers comes, and the texts of these answers.
-use Rattle.std.specs.Prelude.{◌≡◌, ◌≤◌, ◌+◌, ◌-◌, ◌^◌, ◌++◌, ◌∷◌, [], ℕ, List, map, min, codes, string_bytes, String, Some}
+use Rattle.std.specs.Prelude.{◌≡◌, ◌≢◌, ◌≤◌, ◌+◌, ◌-◌, ◌^◌, ◌⊎◌, ◌++◌, ◌∷◌, [], ℕ, List, map, min, codes, string_bytes, String, Option, Some}
 use Rattle.uuid.specs.Text.{parsed}
+use Rattle.disk_model.specs.Disk.{IfTold}
+use Rattle.io_edge.specs.Edge.{Takes, TakesFront}
+use Rattle.flat_model.specs.Volume.{Volume}
+use Rattle.volume_image.specs.Tree.{Image}
+use Rattle.volume_image.specs.Stands.{Stands}
+use Rattle.volume_listing.specs.Listing.{listing_of}
+use Rattle.one_leaf.specs.OneLeaf.{IsOneLeaf}
+use Rattle.mount_volume.specs.declared.fault.MountFault.{MountFault}
+use Rattle.mount_volume.specs.declared.fault.MountFault.TheVariants.{Disk, OutOfMemory}
+use Rattle.mount_volume.specs.Mount.{IsFlat, IsMountFault}
 use Rattle.script_runner.specs.declared.status.Status.{Status}
-use Rattle.script_runner.specs.declared.status.Status.TheVariants.{Done, Usage, DiskFault, WriteFault, Memory, MkfsRange}
+use Rattle.script_runner.specs.declared.status.Status.TheVariants.{Done, Usage, NoVolume, DiskFault, WriteFault, Memory, MkfsRange}
+use Rattle.script_runner.specs.Faults.{fault_line}
 use Rattle.script_runner.specs.Words.{IsNumber, IsUuidText}
 
 -- the bytes of each word
@@ -13,9 +24,17 @@ bytes_of words = map (λ word. string_bytes word) words
 abbrev pub IsMkfs : List (List ℕ) → List ℕ → List ℕ → List ℕ → Type 0
 IsMkfs words fsid blocks subs = words ≡ codes "mkfs" ∷ fsid ∷ blocks ∷ subs ∷ []
 
+-- the words are a `mkfs`, whatever its three words (own)
+abbrev pub IsAnyMkfs : List (List ℕ) → Type 0
+IsAnyMkfs words = (fsid : List ℕ) × (blocks : List ℕ) × (subs : List ℕ) × IsMkfs words fsid blocks subs
+
+-- the word is `list` (own)
+abbrev pub IsList : List (List ℕ) → Type 0
+IsList words = words ≡ codes "list" ∷ []
+
 -- the words are a command (own)
 abbrev pub IsCommand : List (List ℕ) → Type 0
-IsCommand words = (fsid : List ℕ) × (blocks : List ℕ) × (subs : List ℕ) × IsMkfs words fsid blocks subs
+IsCommand words = IsAnyMkfs words ⊎ IsList words
 
 -- a volume may have so many blocks, and so many subvolumes, on a disk of so many blocks (own)
 pub record MayBeMade (disk_blocks blocks subs : ℕ) : Type 0 where
@@ -70,31 +89,85 @@ pub record Says (fsid blocks subs : List ℕ) (bytes : List ℕ) (block_count su
 abbrev pub HasRisen : ℕ → ℕ → Type 0
 HasRisen before now = min (before + 1) (2 ^ 64 - 1) ≤ now
 
--- the volume was made, whether or not its text could be written (own)
-abbrev pub HasMade : Status → Type 0
-HasMade Done = Unit {0}
-HasMade WriteFault = Unit {0}
-HasMade other = ⊥
+-- the command was done, whether or not its text could be written (own)
+abbrev pub IsDone : Status → Type 0
+IsDone Done = Unit {0}
+IsDone WriteFault = Unit {0}
+IsDone other = ⊥
 
 -- the exit status of an answer (own)
 abbrev pub code_of : Status → ℕ
 code_of Done = 0
 code_of Usage = 1
+code_of (NoVolume fault) = 3
 code_of DiskFault = 4
 code_of WriteFault = 6
 code_of Memory = 7
 code_of MkfsRange = 8
+
+-- the answer to a fault of a mount (own)
+abbrev pub status_of : MountFault → Status
+status_of Disk = DiskFault
+status_of OutOfMemory = Memory
+status_of fault = NoVolume fault
+
+-- A fault that an image has, where the disk tells its image; neither the disk's nor want of memory (own).
+pub record IsFaultOf (seen : Option Image) (fault : MountFault) : Type 0 where
+  pub of_image : IfTold seen (λ image. IsMountFault image fault)
+  pub not_disk : fault ≢ Disk
+  pub not_memory : fault ≢ OutOfMemory
+
+-- the image stands for a volume in one leaf, by that leaf and no higher tree (own)
+pub record HasOneLeaf (image : Image) : Type 0 where
+  pub volume : Volume
+  pub small : IsOneLeaf volume
+  pub stands : Stands image volume
+  pub flat : IsFlat image
+
+-- the image stands for a volume in one leaf, and the text is its listing (own)
+abbrev pub IsListing : List ℕ → Image → Type 0
+IsListing text image = (volume : Volume) × IsOneLeaf volume × Stands image volume × (text ≡ listing_of volume)
 
 -- the line of a volume that was made: its numbers as they were given (own)
 abbrev pub made_line : List (List ℕ) → List ℕ
 made_line (command ∷ fsid ∷ blocks ∷ subs ∷ []) = codes "made " ++ blocks ++ codes " " ++ subs ++ codes "\n"
 made_line words = []
 
--- the line that an answer is to write (own)
-abbrev pub line_of : List (List ℕ) → Status → List ℕ
-line_of words Done = made_line words
-line_of words Usage = codes "usage\n"
-line_of words DiskFault = codes "disk\n"
-line_of words WriteFault = made_line words
-line_of words Memory = codes "memory\n"
-line_of words MkfsRange = codes "range\n"
+-- the line of an answer that has one of its own, whatever the command (own)
+abbrev pub answer_line : Status → List ℕ
+answer_line Done = []
+answer_line Usage = codes "usage\n"
+answer_line (NoVolume fault) = fault_line fault
+answer_line DiskFault = codes "disk\n"
+answer_line WriteFault = []
+answer_line Memory = codes "memory\n"
+answer_line MkfsRange = codes "range\n"
+
+-- the text of a listing of this volume with this answer (own)
+abbrev pub IsListAnswer : Volume → Status → List ℕ → Type 0
+IsListAnswer volume Done text = text ≡ listing_of volume
+IsListAnswer volume WriteFault text = text ≡ listing_of volume
+IsListAnswer volume other text = text ≡ answer_line other
+
+-- the text of `list` with this answer, on a disk that tells this image (own)
+abbrev pub IsListText : Option Image → Status → List ℕ → Type 0
+IsListText seen Done text = IfTold seen (IsListing text)
+IsListText seen WriteFault text = IfTold seen (IsListing text)
+IsListText seen other text = text ≡ answer_line other
+
+-- The text of a command that was done: the line of the volume that was made, or the listing, where the disk tells its image (own).
+pub record IsDoneText (words : List (List ℕ)) (seen : Option Image) (text : List ℕ) : Type 0 where
+  pub made : IsAnyMkfs words → text ≡ made_line words
+  pub listed : IsList words → IfTold seen (IsListing text)
+
+-- the text of a command with this answer, on a disk that tells this image (own)
+abbrev pub IsTextOf : List (List ℕ) → Option Image → Status → List ℕ → Type 0
+IsTextOf words seen Done text = IsDoneText words seen text
+IsTextOf words seen WriteFault text = IsDoneText words seen text
+IsTextOf words seen other text = text ≡ answer_line other
+
+-- The sink took a front of the text: all of it after Done, and where its count of faults didn't rise (own).
+pub record IsTold (status : Status) (text : List ℕ) (before after : Option (List ℕ)) (faults faults_now : ℕ) : Type 0 where
+  pub done : status ≡ Done → Takes before text after
+  pub front : TakesFront before text after
+  pub whole : (HasRisen faults faults_now → ⊥) → Takes before text after

@@ -1,25 +1,29 @@
-ghost use Rattle.std.specs.Prelude.{◌≡◌, ◌≤◌, ◌⊎◌, ◌↔◌, ℕ, List, ◌≢◌, OnOk, OnErr};
+ghost use Rattle.std.specs.Prelude.{◌≡◌, ◌≤◌, ◌⊎◌, ◌↔◌, ℕ, List, ◌≢◌, OnOk, OnErr, IsTrue};
 ghost use Rattle.flat_model.specs.Volume.{bare_volume};
 ghost use Rattle.disk_model.specs.Disk.{IfTold};
 ghost use Rattle.io_edge.specs.Edge.{Takes, TakesFront, HasCause};
 ghost use Rattle.volume_image.specs.Stands.{Stands};
-ghost use Rattle.script_runner.specs.Commands.{AreInRange, HasMade, HasRisen, IsCommand, IsInRange, IsOutOfRange, bytes_of, line_of};
+ghost use Rattle.mount_volume.specs.declared.fault.MountFault.{MountFault};
+ghost use Rattle.script_runner.specs.Commands.{AreInRange, HasOneLeaf, HasRisen, IsAnyMkfs, IsCommand, IsDone, IsFaultOf, IsInRange, IsList, IsOutOfRange, IsTextOf, IsTold, bytes_of, made_line};
 ghost use Rattle.script_runner.specs.Mkfs.{CrashLeaves, HasSuperAsked, HasSuperOf, IsOldOrBare};
 
 use crate::Status;
+use crate::answer::answer;
+use crate::list::list;
 use crate::make::{MkfsFault, mkfs};
 use crate::request::Request;
-use crate::text::{put, put_made};
+use crate::text::put_made;
 use disk_model::Disk;
 use io_edge::{Sink, SinkFailed, Source};
 use std::alloc::Global;
 
-/// Does what the words ask, on the disk, and writes one line about it to the sink. The words are those behind an
-/// image's path.
+/// Does what the words ask, on the disk, and writes text about it to the sink. The words are those behind an image's
+/// path.
 ///
-/// `mkfs FSID BLOCKS SUBS` makes an empty volume and writes `made BLOCKS SUBS`; other words are no command yet. The
-/// causes are looked for in this order: `Usage`, `MkfsRange`, the disk and memory, and then the sink. SUBS is 1 until
-/// there are full commits (own).
+/// `mkfs FSID BLOCKS SUBS` makes an empty volume and writes `made BLOCKS SUBS`; SUBS is 1 until there are full commits.
+/// `list` mounts the volume, which writes nothing to the disk, and writes its listing. Other words are no command. Every
+/// other answer but `WriteFault` has a line of its own. The causes are looked for in this order: `Usage`, `MkfsRange`, the
+/// disk, the volume and memory, and then the sink (own).
 pub fn drive<S: Source, K: Sink, D: Disk>(
     alloc: Global,
     words: &[String],
@@ -30,40 +34,57 @@ pub fn drive<S: Source, K: Sink, D: Disk>(
     // Which answer comes.
     ensures usage { (result ≡ Status.Usage) ↔ (IsCommand (bytes_of words.now) → ⊥) }
     ensures range { (result ≡ Status.MkfsRange) ↔ IsOutOfRange (bytes_of words.now) (D.count disk.old) }
+    ensures no_volume { (fault : MountFault) → (result ≡ Status.NoVolume fault) → IsList (bytes_of words.now) × IsFaultOf (D.seen disk.old) fault }
     ensures disk_fault { (result ≡ Status.DiskFault) → HasRisen (D.faults disk.old) (D.faults disk.new) }
     ensures write_fault { (result ≡ Status.WriteFault) → HasRisen (K.faults to.old) (K.faults to.new) }
     ensures complete { IsInRange (bytes_of words.now) (D.count disk.old) → (HasRisen (D.faults disk.old) (D.faults disk.new) → ⊥) → (HasRisen (K.faults to.old) (K.faults to.new) → ⊥)
         → (result ≡ Status.Done) ⊎ (result ≡ Status.Memory) }
+    ensures list_complete { IsList (bytes_of words.now) → IfTold (D.seen disk.old) (λ image. HasOneLeaf image
+        → (HasRisen (D.faults disk.old) (D.faults disk.new) → ⊥) → (HasRisen (K.faults to.old) (K.faults to.new) → ⊥) → (result ≡ Status.Done) ⊎ (result ≡ Status.Memory)) }
 
     // What is left of the source, what the sink was told, and what stays.
     ensures source { from.new ≡ from.old }
-    ensures untouched { (result ≡ Status.Usage) ⊎ (result ≡ Status.MkfsRange) ⊎ (result ≡ Status.Memory) → disk.new ≡ disk.old }
-    ensures text { (result ≡ Status.Done) → Takes (K.taken to.old) (line_of (bytes_of words.now) result) (K.taken to.new) }
-    ensures text_front { TakesFront (K.taken to.old) (line_of (bytes_of words.now) result) (K.taken to.new) }
-    ensures text_whole { (HasRisen (K.faults to.old) (K.faults to.new) → ⊥) → Takes (K.taken to.old) (line_of (bytes_of words.now) result) (K.taken to.new) }
+    ensures untouched { (result ≡ Status.Usage) ⊎ (result ≡ Status.MkfsRange) → disk.new ≡ disk.old }
+    ensures mkfs_untouched { IsAnyMkfs (bytes_of words.now) → (result ≡ Status.Memory) → disk.new ≡ disk.old }
+    ensures list_untouched { IsList (bytes_of words.now) → (D.seen disk.new ≡ D.seen disk.old) × (D.told disk.new ≡ D.told disk.old) }
+    ensures text { (text : List ℕ) × IsTextOf (bytes_of words.now) (D.seen disk.old) result text × IsTold result text (K.taken to.old) (K.taken to.new) (K.faults to.old) (K.faults to.new) }
 
-    // What is on the disk, and what a crash at any moment leaves.
-    ensures stands { HasMade result → IfTold (D.seen disk.new) (λ image. Stands image (bare_volume 1)) }
-    ensures superblock { HasMade result → IfTold (D.seen disk.new) (HasSuperAsked (bytes_of words.now)) }
+    // What is on the disk once a volume was made, and what a crash at any moment leaves.
+    ensures stands { IsAnyMkfs (bytes_of words.now) → IsDone result → IfTold (D.seen disk.new) (λ image. Stands image (bare_volume 1)) }
+    ensures superblock { IsAnyMkfs (bytes_of words.now) → IsDone result → IfTold (D.seen disk.new) (HasSuperAsked (bytes_of words.now)) }
     ensures crash { CrashLeaves (D.told disk.old) (D.told disk.new) IsOldOrBare }
 
     ensures size { D.count disk.new ≡ D.count disk.old }
     ensures disk_counted { D.faults disk.old ≤ D.faults disk.new }
     ensures sink_counted { K.faults to.old ≤ K.faults to.new }
 {
+    if is_list(words) {
+        return list(alloc, to, disk);
+    }
     let status = execute(alloc, words, disk);
-    match tell(words, status, to) {
-        Err(_) if status == Status::Done => Status::WriteFault,
-        _ => status,
+    match status {
+        Status::Done => tell_made(words, to),
+        _ => answer(status, to),
     }
 }
 
-/// Does what the words ask, on the disk. `WriteFault` never comes.
+/// Whether the words are the command `list`.
+fn is_list(words: &[String]) -> bool
+    ensures { IsTrue result ↔ IsList (bytes_of words.now) }
+{
+    match words {
+        [command] => command.as_str() == "list",
+        _ => false,
+    }
+}
+
+/// Makes the volume that the words of a `mkfs` ask for; other words are `Usage`.
 fn execute<D: Disk>(alloc: Global, words: &[String], disk: &mut D) -> Status
-    ensures usage { (result ≡ Status.Usage) ↔ (IsCommand (bytes_of words.now) → ⊥) }
+    ensures usage { (result ≡ Status.Usage) ↔ (IsAnyMkfs (bytes_of words.now) → ⊥) }
     ensures range { (result ≡ Status.MkfsRange) ↔ IsOutOfRange (bytes_of words.now) (D.count disk.old) }
     ensures disk_fault { (result ≡ Status.DiskFault) → HasRisen (D.faults disk.old) (D.faults disk.new) }
     ensures no_text { result ≢ Status.WriteFault }
+    ensures no_list { (fault : MountFault) → result ≢ Status.NoVolume fault }
     ensures untouched { (result ≡ Status.Usage) ⊎ (result ≡ Status.MkfsRange) ⊎ (result ≡ Status.Memory) → disk.new ≡ disk.old }
     ensures stands { (result ≡ Status.Done) → IfTold (D.seen disk.new) (λ image. Stands image (bare_volume 1)) }
     ensures superblock { (result ≡ Status.Done) → IfTold (D.seen disk.new) (HasSuperAsked (bytes_of words.now)) }
@@ -81,7 +102,7 @@ fn execute<D: Disk>(alloc: Global, words: &[String], disk: &mut D) -> Status
 
 /// Makes the volume that the three words of `mkfs` ask for.
 fn make<D: Disk>(alloc: Global, fsid: &str, blocks: &str, subs: &str, disk: &mut D) -> Status
-    ensures command { (result ≢ Status.Usage) × (result ≢ Status.WriteFault) }
+    ensures command { (result ≢ Status.Usage) × (result ≢ Status.WriteFault) × ((fault : MountFault) → result ≢ Status.NoVolume fault) }
     ensures range { (result ≡ Status.MkfsRange) ↔ (AreInRange (D.count disk.old) fsid.now blocks.now subs.now → ⊥) }
     ensures disk_fault { (result ≡ Status.DiskFault) → HasRisen (D.faults disk.old) (D.faults disk.new) }
     ensures untouched { (result ≡ Status.MkfsRange) ⊎ (result ≡ Status.Memory) → disk.new ≡ disk.old }
@@ -108,20 +129,27 @@ fn make<D: Disk>(alloc: Global, fsid: &str, blocks: &str, subs: &str, disk: &mut
     }
 }
 
-/// Writes the line of an answer.
-fn tell<K: Sink>(words: &[String], status: Status, to: &mut K) -> Result<(), SinkFailed>
-    ensures whole { OnOk result (Takes (K.taken to.old) (line_of (bytes_of words.now) status) (K.taken to.new)) }
-    ensures front { OnErr result (TakesFront (K.taken to.old) (line_of (bytes_of words.now) status) (K.taken to.new)) }
+/// Writes the line of the volume that was made, and gives `Done` or `WriteFault`.
+fn tell_made<K: Sink>(words: &[String], to: &mut K) -> Status
+    ensures answer { (result ≡ Status.Done) ⊎ (result ≡ Status.WriteFault) }
+    ensures text { IsTold result (made_line (bytes_of words.now)) (K.taken to.old) (K.taken to.new) (K.faults to.old) (K.faults to.new) }
+    ensures write_fault { (result ≡ Status.WriteFault) → HasRisen (K.faults to.old) (K.faults to.new) }
+    ensures counted { K.faults to.old ≤ K.faults to.new }
+{
+    match put_made_line(words, to) {
+        Ok(()) => Status::Done,
+        Err(SinkFailed) => Status::WriteFault,
+    }
+}
+
+/// Writes the line of the volume that was made.
+fn put_made_line<K: Sink>(words: &[String], to: &mut K) -> Result<(), SinkFailed>
+    ensures whole { OnOk result (Takes (K.taken to.old) (made_line (bytes_of words.now)) (K.taken to.new)) }
+    ensures front { OnErr result (TakesFront (K.taken to.old) (made_line (bytes_of words.now)) (K.taken to.new)) }
     ensures cause { HasCause (K.faults to.old) (K.faults to.new) result }
 {
-    match status {
-        Status::Usage => put(to, b"usage\n"),
-        Status::MkfsRange => put(to, b"range\n"),
-        Status::DiskFault => put(to, b"disk\n"),
-        Status::Memory => put(to, b"memory\n"),
-        Status::Done | Status::WriteFault => match words {
-            [_, _, blocks, subs] => put_made(to, blocks.as_bytes(), subs.as_bytes()),
-            _ => Ok(()),
-        },
+    match words {
+        [_, _, blocks, subs] => put_made(to, blocks.as_str(), subs.as_str()),
+        _ => Ok(()),
     }
 }

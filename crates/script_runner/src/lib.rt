@@ -2,7 +2,12 @@
 //! sink.
 #![tactic(auto)]
 
+mod answer;
 mod command;
+mod fault_text;
+mod list;
+#[cfg(test)]
+mod list_tests;
 mod make;
 mod request;
 mod status;

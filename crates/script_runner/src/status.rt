@@ -1,6 +1,8 @@
 ghost use Rattle.std.specs.Prelude.{◌≡◌};
 ghost use Rattle.script_runner.specs.Commands.{code_of};
 
+use mount_volume::MountFault;
+
 /// How a command ended.
 #[derive(Clone, Copy, Debug, PartialEq, Eq)]
 pub enum Status {
@@ -8,6 +10,8 @@ pub enum Status {
     Done,
     /// The words are no command.
     Usage,
+    /// The disk has no volume that can be mounted.
+    NoVolume(MountFault),
     /// The disk failed.
     DiskFault,
     /// The sink failed.
@@ -26,6 +30,7 @@ impl Status {
         match self {
             Status::Done => 0,
             Status::Usage => 1,
+            Status::NoVolume(_) => 3,
             Status::DiskFault => 4,
             Status::WriteFault => 6,
             Status::Memory => 7,

@@ -9,11 +9,11 @@ use std::alloc::Global;
 use std::test::Fail;
 
 /// The uuid of the first worked volume.
-const FSID: &str = "00000000-0000-0000-0000-000000000001";
+pub(crate) const FSID: &str = "00000000-0000-0000-0000-000000000001";
 
 /// A disk of any size that keeps the calls made on it and the last superblock, and fails at one call. It tells nothing.
 #[derive(Drop)]
-struct ListDisk {
+pub(crate) struct ListDisk {
     count: u32,
     // The block of each write, 16 for the superblock, and 0 for a flush.
     calls: Vec<u32>,
@@ -24,7 +24,7 @@ struct ListDisk {
 }
 
 impl ListDisk {
-    fn new(alloc: Global, count: u32, fails: usize) -> ListDisk {
+    pub(crate) fn new(alloc: Global, count: u32, fails: usize) -> ListDisk {
         ListDisk {
             count,
             calls: Vec::new(alloc),
@@ -96,12 +96,11 @@ impl Disk for ListDisk {
     }
 }
 
-/// Runs a command on a disk of so many blocks that fails at this call, and a sink that fails at these writes. Gives the
-/// exit status, the text and the disk.
-fn run(
+/// Runs a command, and gives its exit status.
+pub(crate) fn run<D: Disk>(
     alloc: Global,
     words: &[&str],
-    disk: &mut ListDisk,
+    disk: &mut D,
     to: &mut MemorySink,
 ) -> Result<u8, Fail> {
     let mut command = Vec::new(alloc);

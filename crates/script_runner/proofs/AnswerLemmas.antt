@@ -1,0 +1,47 @@
+-- The answers and texts of `list`.
+use Rattle.std.proofs.Common.{◌≡◌, ◌⊎◌, inr, ℕ, List, Option, Some, None, refl}
+use Rattle.disk_model.specs.Disk.{IfTold}
+use Rattle.io_edge.specs.Edge.{Takes}
+use Rattle.flat_model.specs.Volume.{volume_of}
+use Rattle.volume_image.specs.Tree.{Image}
+use Rattle.volume_listing.specs.Listing.{listing_of}
+use Rattle.mount_volume.specs.declared.fault.MountFault.{MountFault}
+use Rattle.mount_volume.specs.declared.fault.MountFault.TheVariants.{Super, Load, OneLeaf, Disk, OutOfMemory}
+use Rattle.mount_volume.specs.declared.mounted.Mounted.{Mounted}
+use Rattle.mount_volume.specs.Answer.{IsMountedAs, IsToldFault}
+use Rattle.mount_volume.proofs.Law.{no_refusal}
+use Rattle.script_runner.specs.declared.status.Status.{Status}
+use Rattle.script_runner.specs.declared.status.Status.TheVariants.{Done, Usage, NoVolume, DiskFault, WriteFault, Memory, MkfsRange}
+use Rattle.script_runner.specs.Commands.{HasOneLeaf, IsListAnswer, IsListText, IsListing, IsTold, status_of}
+use Rattle.script_runner.proofs.SinkLemmas.{Takes-front}
+
+-- the whole text was taken
+pub told_whole : (status : Status) (text : List ℕ) (before after : Option (List ℕ)) (faults faults_now : ℕ) → Takes before text after → IsTold status text before after faults faults_now
+told_whole status text before after faults faults_now takes = record { done = λ _. takes; front = Takes-front before after text takes; whole = λ _. takes }
+
+-- the volume of a mount is one that the image stands for
+mounted_listing : (seen : Option Image) (mounted : Mounted) (text : List ℕ) → IfTold seen (λ image. IsMountedAs image mounted) → text ≡ listing_of (volume_of mounted.volume)
+    → IfTold seen (IsListing text)
+mounted_listing None mounted text stands is = tt
+mounted_listing (Some image) mounted text stands is = (volume_of mounted.volume, stands.small, record { reach = _; by_reach = stands.stands }, is)
+
+-- its listing is the text of `list`
+pub mounted_text : (seen : Option Image) (mounted : Mounted) (status : Status) (text : List ℕ) → IfTold seen (λ image. IsMountedAs image mounted) → IsListAnswer (volume_of mounted.volume) status text
+    → IsListText seen status text
+mounted_text seen mounted Done text stands is = mounted_listing seen mounted text stands is
+mounted_text seen mounted WriteFault text stands is = mounted_listing seen mounted text stands is
+mounted_text seen mounted Usage text stands is = is
+mounted_text seen mounted (NoVolume fault) text stands is = is
+mounted_text seen mounted DiskFault text stands is = is
+mounted_text seen mounted Memory text stands is = is
+mounted_text seen mounted MkfsRange text stands is = is
+
+-- a volume that stands isn't refused
+pub refused : (seen : Option Image) (fault : MountFault) (status : Status) (disk_risen sink_risen : Type 0) → IsToldFault seen fault → (fault ≡ Disk → disk_risen) → status ≡ status_of fault
+    → IfTold seen (λ image. HasOneLeaf image → (disk_risen → ⊥) → (sink_risen → ⊥) → (status ≡ Done) ⊎ (status ≡ Memory))
+refused None fault status disk_risen sink_risen told cause is = tt
+refused (Some image) (Super fault) status disk_risen sink_risen told cause is = λ it no _. absurd (no_refusal image it.volume it.small it.stands it.flat (Super fault) told)
+refused (Some image) (Load fault) status disk_risen sink_risen told cause is = λ it no _. absurd (no_refusal image it.volume it.small it.stands it.flat (Load fault) told)
+refused (Some image) OneLeaf status disk_risen sink_risen told cause is = λ it no _. absurd (no_refusal image it.volume it.small it.stands it.flat OneLeaf told)
+refused (Some image) Disk status disk_risen sink_risen told cause is = λ it no _. absurd (no (cause refl))
+refused (Some image) OutOfMemory status disk_risen sink_risen told cause is = λ it no _. inr is

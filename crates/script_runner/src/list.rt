@@ -1,0 +1,63 @@
+//! The command `list`.
+ghost use Rattle.std.specs.Prelude.{◌≡◌, ◌≢◌, ◌≤◌, ◌⊎◌, List, ℕ};
+ghost use Rattle.disk_model.specs.Disk.{IfTold};
+ghost use Rattle.flat_model.specs.Volume.{volume_of};
+ghost use Rattle.mount_volume.specs.declared.fault.MountFault.{MountFault};
+ghost use Rattle.script_runner.specs.Commands.{HasOneLeaf, HasRisen, IsFaultOf, IsListAnswer, IsListText, IsTold, status_of};
+
+use crate::Status;
+use crate::answer::answer;
+use disk_model::Disk;
+use flat_volume::FlatVolume;
+use io_edge::Sink;
+use mount_volume::{MountFault, mount};
+use std::alloc::Global;
+use volume_listing::{ListFault, write_listing};
+
+/// The answer to a fault of a mount.
+fn status_of(fault: MountFault) -> Status
+    ensures { result ≡ status_of fault }
+{
+    match fault {
+        MountFault::Disk => Status::DiskFault,
+        MountFault::OutOfMemory => Status::Memory,
+        _ => Status::NoVolume(fault),
+    }
+}
+
+/// Writes the listing of a volume, or the line of want of memory.
+fn print<K: Sink>(alloc: Global, volume: &FlatVolume, to: &mut K) -> Status
+    ensures answer { (result ≡ Status.Done) ⊎ (result ≡ Status.WriteFault) ⊎ (result ≡ Status.Memory) }
+    ensures text { (text : List ℕ) × IsListAnswer (volume_of volume.now) result text × IsTold result text (K.taken to.old) (K.taken to.new) (K.faults to.old) (K.faults to.new) }
+    ensures write_fault { (result ≡ Status.WriteFault) → HasRisen (K.faults to.old) (K.faults to.new) }
+    ensures counted { K.faults to.old ≤ K.faults to.new }
+{
+    match write_listing(alloc, volume, to) {
+        Ok(()) => Status::Done,
+        Err(ListFault::Sink) => Status::WriteFault,
+        Err(ListFault::OutOfMemory) => answer(Status::Memory, to),
+    }
+}
+
+/// Writes the listing of the volume on the disk, or the line of why it can't be mounted.
+pub(crate) fn list<K: Sink, D: Disk>(alloc: Global, to: &mut K, disk: &mut D) -> Status
+    ensures command { (result ≢ Status.Usage) × (result ≢ Status.MkfsRange) }
+    ensures no_volume { (fault : MountFault) → (result ≡ Status.NoVolume fault) → IsFaultOf (D.seen disk.old) fault }
+    ensures disk_fault { (result ≡ Status.DiskFault) → HasRisen (D.faults disk.old) (D.faults disk.new) }
+    ensures write_fault { (result ≡ Status.WriteFault) → HasRisen (K.faults to.old) (K.faults to.new) }
+    ensures complete { IfTold (D.seen disk.old) (λ image. HasOneLeaf image
+        → (HasRisen (D.faults disk.old) (D.faults disk.new) → ⊥) → (HasRisen (K.faults to.old) (K.faults to.new) → ⊥) → (result ≡ Status.Done) ⊎ (result ≡ Status.Memory)) }
+
+    ensures text { (text : List ℕ) × IsListText (D.seen disk.old) result text × IsTold result text (K.taken to.old) (K.taken to.new) (K.faults to.old) (K.faults to.new) }
+    ensures seen { D.seen disk.new ≡ D.seen disk.old }
+    ensures told { D.told disk.new ≡ D.told disk.old }
+
+    ensures size { D.count disk.new ≡ D.count disk.old }
+    ensures disk_counted { D.faults disk.old ≤ D.faults disk.new }
+    ensures sink_counted { K.faults to.old ≤ K.faults to.new }
+{
+    match mount(alloc, disk) {
+        Ok(mounted) => print(alloc, &mounted.volume, to),
+        Err(fault) => answer(status_of(fault), to),
+    }
+}
