@@ -1,0 +1,8 @@
+pub mod Standing
+pub mod Law
+pub mod Volumes
+pub mod Walks
+pub mod Parts
+pub mod Told
+pub mod Files
+pub mod Refusals

@@ -1,0 +1,10 @@
+use Rattle.std.proofs.Common.{◌≤◌, arith}
+use Rattle.mount_volume.proofs.Walks.{super_past}
+use Rattle.mount_volume.proofs.blocks.read_super_block.Goals as goal
+
+pub returns-then-blocks-le-SUPER_BLOCK-clause-bytes :
+    goal.returns-then-blocks-le-SUPER_BLOCK-clause-bytes
+returns-then-blocks-le-SUPER_BLOCK-clause-bytes g c =
+    let disk = c.args.disk.now in
+    let few : g.D.Disk.count disk ≤ 16 = let test = c.if-blocks-le-SUPER_BLOCK.true in let same = c.blocks-2.ensures in omega arith in
+    super_past (g.D.Disk.seen disk) (g.D.Disk.count disk) (g.met.D.Disk.reads_all disk) few
