@@ -1,8 +1,9 @@
 -- Subtrees whose blocks stay as they were.
 use Rattle.std.proofs.Common.{◌≡◌, ◌≤◌, ℕ, zero, suc, true, false, List, length, ap, ◌∙◌, Some, arith}
-use Rattle.std.specs.Prelude.{All}
+use Rattle.std.specs.Prelude.{All, slice_index_or}
 use Rattle.std.specs.List.{flat_map, sum_by}
 use Rattle.std.proofs.lemmas.List.Elements.{All-weaker}
+use Rattle.blk_base.specs.declared.key.Want.{Want}
 use Rattle.blk_base.specs.Leaf.{Pointer}
 use Rattle.block_table.specs.Table.{Table}
 use Rattle.block_table.specs.TreeIn.{block_at, first_key}
@@ -12,7 +13,9 @@ use Rattle.tree_range.proofs.Local.{IsAlikeBelow, alike_below}
 use Rattle.tree_frame.proofs.Counting.{counted_alike}
 use Rattle.tree_frame.proofs.Reading.{all_parts, flat_map_same}
 use Rattle.tree_frame.specs.Frame.{leaves_below}
+use Rattle.cow_tree.specs.Below.{want_at}
 use Rattle.cow_tree.proofs.Lists.{sum_same}
+use Rattle.cow_tree.proofs.Sealed.{Sealed, sealed_alike}
 
 -- a subtree that is no root is one where it is
 pub as_root : (level : ℕ) (table : Table) (at : ℕ) → IsSubtree level table false at → IsSubtree level table true at
@@ -26,6 +29,7 @@ pub record AreAlikeBelow (level : ℕ) (old new : Table) (pointers : List Pointe
   pub leaves : sum_by (λ pointer. leaves_below level new pointer.at) pointers ≡ sum_by (λ pointer. leaves_below level old pointer.at) pointers
   pub children : All (Child level old) pointers → All (Child level new) pointers
   pub firsts : All (λ pointer. first_key (items_below level old pointer.at) ≡ Some pointer.key) pointers → All (λ pointer. first_key (items_below level new pointer.at) ≡ Some pointer.key) pointers
+  pub sealed : (want : Want) → All (Sealed level old want) pointers → All (Sealed level new want) pointers
 
 pub alike_list : (level : ℕ) (old new : Table) (pointers : List Pointer) → All (λ place. block_at new place ≡ block_at old place) (flat_map (λ pointer. reach_below level old pointer.at) pointers) → AreAlikeBelow level old new pointers
 alike_list level old new pointers h =
@@ -42,4 +46,7 @@ alike_list level old new pointers h =
           let k = was i d inside in
           (one.shape false k.0, ap first_key one.items ∙ k.1);
       firsts = λ was i d inside. let one = each i d inside in ap first_key one.items ∙ was i d inside;
+      sealed = λ want was i d inside.
+          let p = slice_index_or pointers i d in
+          sealed_alike level old new (want_at want p.at p.generation) (parts i d inside) (was i d inside);
     }

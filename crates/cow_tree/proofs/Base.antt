@@ -65,6 +65,7 @@ module _ (old new : Table) (at : ℕ) (key : Key) (bytes : List ℕ) (pieces : L
     one = λ is_root k single. shapes is_root;
     more = λ several. shapes false;
     changes = subst (λ (l : List ℕ). IsChange old new (at ∷ []) l 3) (sym (ats_single pieces)) h.changes;
+    sealed = λ want was s i d inside. λ written. absurd (written (h.each i d inside).leaf.dirty);
     leaves = omega (arith, sum_ones pieces);
     same_leaves = λ stood is short. let single = fits stood (ap (data_under key) (sym items_were) ∙ is) short in (single, omega (arith, sum_ones pieces, single));
     whole = λ below e short. absurd (omega (arith, e));

@@ -7,6 +7,7 @@ use Rattle.std.proofs.lemmas.List.Concat.{flat_map-append}
 use Rattle.std.proofs.lemmas.List.Sums.{sum_by-append, sum_by-cons}
 use Rattle.std.proofs.lemmas.List.Elements.{All-append, All-head, All-same, All-tail, All-weaker}
 use Rattle.blk_base.specs.declared.key.Key.{Key}
+use Rattle.blk_base.specs.declared.key.Want.{Want}
 use Rattle.blk_base.specs.Keys.{keys_rise}
 use Rattle.blk_base.specs.Leaf.{Item, Pointer}
 use Rattle.block_table.specs.declared.state.SlotState.TheVariants.{LetGo}
@@ -30,6 +31,7 @@ use Rattle.cow_tree.proofs.Changes.{beside, more}
 use Rattle.cow_tree.proofs.Items.{with_middle, with_rise}
 use Rattle.cow_tree.proofs.Lists.{all_from, all_to, flat_cut, sum_cut, times_cut}
 use Rattle.cow_tree.proofs.Pointers.{spliced_cut}
+use Rattle.cow_tree.proofs.Sealed.{Sealed}
 use Rattle.cow_tree.proofs.Steps.{here}
 use Rattle.cow_tree.proofs.Sides.{HaveFirsts, above_child, below_child, pointers_rise}
 
@@ -117,6 +119,7 @@ pub record IsGrown (level : ℕ) (old new : Table) (at : ℕ) (key : Key) (bytes
   pub items : items_of level new (c.lefts ++ (pieces ++ c.rights)) ≡ with_item key bytes (items_below (suc level) old at)
   pub rise : keys_rise (pointer_keys (c.lefts ++ (pieces ++ c.rights))) ≡ true
   pub changes : IsChange old new (reach_below (suc level) old at) (at ∷ reach_of level new (c.lefts ++ (pieces ++ c.rights))) (2 * level + 3)
+  pub sealed : (want : Want) → All (Sealed level old want) (node_pointers old at) → All (Sealed level new want) (c.lefts ++ (pieces ++ c.rights))
   pub leaves : leaves_of level new (c.lefts ++ (pieces ++ c.rights)) ≡ leaves_of level old c.lefts + (leaves_of level new pieces + leaves_of level old c.rights)
 
 module _ (level : ℕ) (old new : Table) (at : ℕ) (key : Key) (bytes : List ℕ) (place : ℕ) (pieces : List Pointer) (w : IsWritable (suc level) old at) (c : IsCutAt level old at key place) (h : IsWritten level old new c.pointer.at key bytes pieces) where
@@ -188,6 +191,13 @@ module _ (level : ℕ) (old new : Table) (at : ℕ) (key : Key) (bytes : List �
       c.reach
       new_times
 
+  new_sealed : (want : Want) → All (Sealed level old want) (node_pointers old at) → All (Sealed level new want) pointers
+  new_sealed want each =
+      let was : All (Sealed level old want) (c.lefts ++ c.pointer ∷ c.rights) = All-same (Sealed level old want) (c.lefts ++ c.pointer ∷ c.rights) (node_pointers old at) (sym c.split) each in
+      let right_ones = All-right (Sealed level old want) c.lefts (c.pointer ∷ c.rights) was in
+      let middle : All (Sealed level new want) pieces = h.sealed want c.pointer.generation (All-head (Sealed level old want) c.pointer c.rights right_ones) in
+      All-append (Sealed level new want) c.lefts (pieces ++ c.rights) (alike_left.sealed want (All-left (Sealed level old want) c.lefts (c.pointer ∷ c.rights) was)) (All-append (Sealed level new want) pieces c.rights middle (alike_right.sealed want (All-tail (Sealed level old want) c.pointer c.rights right_ones)))
+
   new_leaves : leaves_of level new pointers ≡ leaves_of level old c.lefts + (leaves_of level new pieces + leaves_of level old c.rights)
   new_leaves = sum_cut (λ (pointer : Pointer). leaves_below level new pointer.at) c.lefts pieces c.rights ∙ ap (λ (n : ℕ). n + (leaves_of level new pieces + leaves_of level new c.rights)) alike_left.leaves ∙ ap (λ (n : ℕ). leaves_of level old c.lefts + (leaves_of level new pieces + n)) alike_right.leaves
 
@@ -200,5 +210,6 @@ module _ (level : ℕ) (old new : Table) (at : ℕ) (key : Key) (bytes : List �
     items = new_items;
     rise = new_rise;
     changes = new_changes;
+    sealed = new_sealed;
     leaves = new_leaves;
   }

@@ -4,9 +4,10 @@ use Rattle.std.specs.Prelude.{All, slice_index_or}
 use Rattle.std.specs.List.{flat_map, sum_by}
 use Rattle.std.proofs.lemmas.List.Elements.{All-head, All-same, All-weaker}
 use Rattle.blk_base.specs.declared.key.Key.{Key}
+use Rattle.blk_base.specs.declared.key.Want.{Want}
 use Rattle.blk_base.specs.Leaf.{Item, Pointer}
 use Rattle.block_table.specs.Table.{Table}
-use Rattle.block_table.specs.TreeIn.{IsTaken, block_at, first_key, least_pointers}
+use Rattle.block_table.specs.TreeIn.{IsSealedSubtree, IsTaken, block_at, first_key, least_pointers}
 use Rattle.leaf_view.proofs.NodeLaws.{node_body_means}
 use Rattle.tree_range.specs.Between.{data_under}
 use Rattle.tree_range.specs.Part.{times_in}
@@ -22,7 +23,7 @@ use Rattle.tree_blocks.specs.Steps.{IsDirtyNode, node_at}
 use Rattle.tree_blocks.proofs.Listing.{node_to_ok}
 use Rattle.tree_frame.specs.Frame.{leaves_below, with_item}
 use Rattle.cow_tree.specs.Change.{IsChange}
-use Rattle.cow_tree.specs.Below.{IsWritable, IsWritten}
+use Rattle.cow_tree.specs.Below.{IsWritable, IsWritten, want_at}
 use Rattle.cow_tree.specs.Pieces.{ats_of, spliced}
 use Rattle.cow_tree.specs.Spread.{IsNodePiece, IsNodeSpread}
 use Rattle.cow_tree.proofs.Alike.{AreAlikeBelow, alike_list}
@@ -30,6 +31,7 @@ use Rattle.cow_tree.proofs.Changes.{at_most, beside, join, more, taken_after}
 use Rattle.cow_tree.proofs.Cut.{IsCutAt, IsGrown, grown, items_of, leaves_of, reach_of}
 use Rattle.cow_tree.proofs.Items.{under_middle}
 use Rattle.cow_tree.proofs.Lists.{all_from, all_to, flat_flat, only_one, sum_flat, times_nodes}
+use Rattle.cow_tree.proofs.Sealed.{Sealed, below_want, sealed_children, sealed_node}
 use Rattle.cow_tree.proofs.Sides.{HaveFirsts}
 
 -- a node's first key is its first child's
@@ -131,6 +133,15 @@ module _ (level : ℕ) (old mid new : Table) (at : ℕ) (key : Key) (bytes : Lis
   single : length pointers ≤ 121 → length nodes ≡ 1
   single short = n.one (omega (arith, ap length spliced_is))
 
+  sealed : (want : Want) (was : ℕ) → IsSealedSubtree (suc level) old (want_at want at was) → All (Sealed (suc level) new want) nodes
+  sealed want was s =
+      let S : Pointer → Type 0 = Sealed level new (below_want want level) in
+      let each : All S pointers = alike.sealed (below_want want level) (grew.sealed (below_want want level) (sealed_children level old want at was w.shape.1 s)) in
+      let parts : All (λ (node : Pointer). All S (listed node)) nodes = all_parts S listed nodes (All-same S (flat_map listed nodes) pointers pointers_are each) in
+      λ i d inside.
+      let node = slice_index_or nodes i d in
+      sealed_node level new want node.at node.generation (n.each i d inside).node.dirty (parts i d inside)
+
   leaves_are : leaves_of (suc level) new nodes ≡ leaves_of level old c.lefts + (leaves_of level mid pieces + leaves_of level old c.rights)
   leaves_are =
       let v : Pointer → ℕ = λ (pointer : Pointer). leaves_below level new pointer.at in
@@ -148,6 +159,7 @@ module _ (level : ℕ) (old mid new : Table) (at : ℕ) (key : Key) (bytes : Lis
     one = one;
     more = several;
     changes = changes;
+    sealed = sealed;
     leaves = omega (arith, leaves_are, c.leaves, h.leaves);
     same_leaves = λ was is short.
         let under : data_under key (items_below level old c.pointer.at) ≡ Some was = sym (under_middle key (items_of level old c.lefts) (items_below level old c.pointer.at) (items_of level old c.rights) c.below c.above) ∙ ap (data_under key) (sym c.items) ∙ is in

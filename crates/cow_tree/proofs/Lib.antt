@@ -5,6 +5,7 @@ pub mod Pointers
 pub mod Leaves
 pub mod Nodes
 pub mod Lists
+pub mod Sealed
 pub mod Alike
 pub mod Sides
 pub mod Cut

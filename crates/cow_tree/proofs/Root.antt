@@ -5,11 +5,12 @@ use Rattle.std.proofs.lemmas.List.{append-nil}
 use Rattle.std.proofs.lemmas.List.Elements.{All-head}
 use Rattle.std.proofs.lemmas.List.Sums.{sum_by-cons}
 use Rattle.blk_base.specs.declared.key.Key.{Key}
+use Rattle.blk_base.specs.declared.key.Want.{Want}
 use Rattle.blk_base.specs.Leaf.{Pointer}
 use Rattle.block_table.specs.declared.state.SlotState.TheVariants.{LetGo}
 use Rattle.block_table.specs.declared.tree.Tree.{Tree}
 use Rattle.block_table.specs.Table.{Table}
-use Rattle.block_table.specs.TreeIn.{IsTaken, ItemsRise, block_at}
+use Rattle.block_table.specs.TreeIn.{IsSealedSubtree, IsSealedTree, IsTaken, ItemsRise, block_at}
 use Rattle.leaf_view.specs.Search.{pointer_keys}
 use Rattle.blk_base.specs.Keys.{keys_rise}
 use Rattle.tree_range.specs.Between.{data_under}
@@ -33,14 +34,20 @@ use Rattle.cow_tree.proofs.Frame.{change_is_edit}
 use Rattle.cow_tree.proofs.Items.{with_rise}
 use Rattle.cow_tree.proofs.Lists.{all_from, all_to}
 use Rattle.cow_tree.proofs.Steps.{here}
+use Rattle.cow_tree.proofs.Sealed.{Sealed, below_want, sealed_node, sealed_root}
 use Rattle.cow_tree.proofs.Sides.{pointers_rise}
 
 pub tree_writable : (table : Table) (tree : Tree) → IsTree table tree → AreCurrent table (tree_reach table tree) → IsWritable tree.level table tree.root.0
 tree_writable table tree t current = record { shape = t.shape; order = t.order; once = t.once; current = current }
 
+-- where the blocks of the one tree pass their headers' checks, those of the other do
+abbrev KeepsHeaders : Table → Table → Tree → Tree → Type 0
+KeepsHeaders old new was is =
+    (fsid : List ℕ) (before : ℕ) → IsSealedTree old was fsid before → (after : ℕ) × IsSealedTree new is fsid after
+
 -- what a tree's change says of the tree
 module _ (old new : Table) (was is : Tree) (key : Key) (bytes : List ℕ) (t : IsTree old was) (current : AreCurrent old (tree_reach old was)) (owner : is.owner ≡ was.owner) (low : is.level ≤ 7) (shape : IsSubtree is.level new true is.root.0) (items : tree_items new is ≡ with_item key bytes (tree_items old was))
-    (changes : IsChange old new (tree_reach old was) (tree_reach new is) 17) (leaves : tree_leaves new is ≤ tree_leaves old was + 2)
+    (changes : IsChange old new (tree_reach old was) (tree_reach new is) 17) (sealed : KeepsHeaders old new was is) (leaves : tree_leaves new is ≤ tree_leaves old was + 2)
     (no_leaf : (stood : List ℕ) → data_under key (tree_items old was) ≡ Some stood → length bytes ≤ length stood → tree_leaves new is ≡ tree_leaves old was) where
   pub tree_written : IsTreeWritten old new was is key bytes
   tree_written = record {
@@ -54,6 +61,7 @@ module _ (old new : Table) (was is : Tree) (key : Key) (bytes : List ℕ) (t : I
     owner = owner;
     edit = change_is_edit old new (tree_reach old was) (tree_reach new is) 17 changes;
     current = all_from (λ (x : ℕ). (block_at new x).state ≢ LetGo) (tree_reach new is) (λ x there. current_after old new (λ y. times_in y (tree_reach old was)) (λ y. times_in y (tree_reach new is)) 17 changes (λ y here. all_to (λ (z : ℕ). (block_at old z).state ≢ LetGo) (tree_reach old was) y current here) x there);
+    sealed = sealed;
     blocks = record { spare = changes.spare; free = changes.free };
     leaves = leaves;
     no_leaf = no_leaf;
@@ -68,11 +76,15 @@ one_root old new was is key bytes only t current owner level root h =
     let reach : reach_of was.level new (only ∷ []) ≡ reach_below was.level new only.at = append-nil (reach_below was.level new only.at) in
     let changes : IsChange old new (tree_reach old was) (reach_below was.level new only.at) 17 =
     subst (λ (l : List ℕ). IsChange old new (tree_reach old was) l 17) reach (at_most old new (λ x. times_in x (tree_reach old was)) (λ x. times_in x (reach_of was.level new (only ∷ []))) (2 * was.level + 3) 17 (omega (arith, t.low)) h.changes) in
+    let sealed : KeepsHeaders old new was is = λ fsid before s.
+    let want : Want = record { fsid = fsid; at = was.root; generation = before; owner = was.owner; level = was.level } in
+    (only.generation, sealed_root was.level new is fsid only.at only.generation was.owner level owner root (All-head (Sealed was.level new want) only [] (h.sealed want before s))) in
     let leaves : leaves_of was.level new (only ∷ []) ≡ leaves_below was.level new only.at = sum_by-cons (λ (p : Pointer). leaves_below was.level new p.at) only [] ∙ omega arith in
     tree_written old new was is key bytes t current owner (omega (arith, level, t.low))
     (subst (λ (n : ℕ). IsSubtree n new true is.root.0) (sym level) (subst (λ (a : ℕ). IsSubtree was.level new true a) (sym root) at))
     (ap (λ (n : ℕ). items_below n new is.root.0) level ∙ ap (items_below was.level new) root ∙ items)
     (subst (λ (n : ℕ). IsChange old new (tree_reach old was) (reach_below n new is.root.0) 17) (sym level) (subst (λ (a : ℕ). IsChange old new (tree_reach old was) (reach_below was.level new a) 17) (sym root) changes))
+    sealed
     (let there : tree_leaves new is ≡ leaves_of was.level new (only ∷ []) = ap (λ (n : ℕ). leaves_below n new is.root.0) level ∙ ap (leaves_below was.level new) root ∙ sym leaves in omega (arith, there, h.leaves))
     (λ stood found short. ap (λ (n : ℕ). leaves_below n new is.root.0) level ∙ ap (leaves_below was.level new) root ∙ sym leaves ∙ (h.same_leaves stood found short).1)
 
@@ -129,11 +141,19 @@ module _ (old mid new : Table) (was is : Tree) (key : Key) (bytes : List ℕ) (p
   leaves_are : leaves_below (suc was.level) new root ≡ leaves_of was.level mid pieces
   leaves_are = ap (leaves_of was.level new) pointers_are ∙ alike.leaves
 
+  sealed : KeepsHeaders old new was is
+  sealed fsid before s =
+      let want : Want = record { fsid = fsid; at = was.root; generation = before; owner = was.owner; level = was.level } in
+      let each : All (Sealed was.level new want) pieces = alike.sealed want (h.sealed want before s) in
+      let over : IsSealedSubtree (suc was.level) new (record { fsid = fsid; at = is.root; generation = 0; owner = was.owner; level = suc was.level }) = sealed_node was.level new (below_want want (suc was.level)) root 0 node.dirty (subst (All (Sealed was.level new want)) (sym pointers_are) each) in
+      (0, sealed_root (suc was.level) new is fsid root 0 was.owner level owner refl over)
+
   pub grown_root : IsTreeWritten old new was is key bytes
   grown_root = tree_written old new was is key bytes t current owner low
       (subst (λ (n : ℕ). IsSubtree n new true root) (sym level) shape)
       (ap (λ (n : ℕ). items_below n new root) level ∙ items)
       (subst (λ (n : ℕ). IsChange old new (tree_reach old was) (reach_below n new root) 17) (sym level) changes)
+      sealed
       (let there : tree_leaves new is ≡ leaves_below (suc was.level) new root = ap (λ (n : ℕ). leaves_below n new root) level in omega (arith, there, leaves_are, h.leaves))
       (λ stood found short. absurd (omega (arith, (h.same_leaves stood found short).0, several)))
 

@@ -3,6 +3,7 @@ use Rattle.std.specs.Prelude.{◌≡◌, ◌≤◌, ◌+◌, ℕ, List, length, 
 use Rattle.blk_base.specs.declared.key.Key.{Key}
 use Rattle.block_table.specs.declared.tree.Tree.{Tree}
 use Rattle.block_table.specs.Table.{Table}
+use Rattle.block_table.specs.TreeIn.{IsSealedTree}
 use Rattle.tree_range.specs.Between.{data_under}
 use Rattle.tree_range.specs.Shape.{IsTree, tree_items, tree_reach}
 use Rattle.tree_frame.specs.Frame.{AreCurrent, IsEdit, TakesAtMost, tree_leaves, with_item}
@@ -14,6 +15,7 @@ pub record IsTreeWritten (old new : Table) (was is : Tree) (key : Key) (bytes : 
   pub owner : is.owner ≡ was.owner
   pub edit : IsEdit old new (tree_reach old was) (tree_reach new is)
   pub current : AreCurrent new (tree_reach new is)
+  pub sealed : (fsid : List ℕ) (before : ℕ) → IsSealedTree old was fsid before → (after : ℕ) × IsSealedTree new is fsid after
   pub blocks : TakesAtMost old new 17
   pub leaves : tree_leaves new is ≤ tree_leaves old was + 2
   pub no_leaf : (stood : List ℕ) → data_under key (tree_items old was) ≡ Some stood → length bytes ≤ length stood → tree_leaves new is ≡ tree_leaves old was

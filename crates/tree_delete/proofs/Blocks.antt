@@ -18,6 +18,8 @@ use Rattle.tree_blocks.proofs.Put.{put_last, put_taken}
 use Rattle.tree_frame.specs.Frame.{IsEdit, TakesAtMost}
 use Rattle.tree_frame.proofs.EditLaws.{is_dirty, nothing_is_an_edit}
 use Rattle.tree_frame.proofs.StepLaws.{copied_is_an_edit, let_go_is_an_edit}
+use Rattle.tree_delete.specs.Ahead.{copies_of}
+use Rattle.tree_delete.proofs.Ahead.{copies_one}
 
 -- ---- the lists of a block
 
@@ -38,7 +40,7 @@ leaf_same table at = same_list (leaf_body_of (block_at table at).bytes)
 -- what it takes that a block may be edited
 pub record IsOwned (old new : Table) (at result : ℕ) : Type 0 where
   pub edit : IsEdit old new (at ∷ []) (result ∷ [])
-  pub blocks : TakesAtMost old new 1
+  pub blocks : TakesAtMost old new (copies_of (block_at old at).state)
   pub allowed : IsAllowed (length new.slots) at → IsAllowed (length new.slots) result
 
 owned_dirty : (old new : Table) (at result : Addr) → result ≡ at → new ≡ old → IsOwned old new at.0 result.0
@@ -49,7 +51,7 @@ owned_dirty old new at result same table =
 owned_copy : (old new : Table) (at copy : ℕ) → (block_at old at).state ≢ Dirty → IsCopied old new at copy → IsOwned old new at copy
 owned_copy old new at copy written h = record {
   edit = copied_is_an_edit old new at copy h written;
-  blocks = record { spare = omega (arith, h.spare); free = omega (arith, h.free) };
+  blocks = let one = copies_one (block_at old at).state written in record { spare = omega (arith, one, h.spare); free = omega (arith, one, h.free) };
   allowed = λ _. subst (λ (n : ℕ). IsAllowed n copy) (sym h.others.size) h.taken.allowed;
 }
 

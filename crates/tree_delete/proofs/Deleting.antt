@@ -1,35 +1,41 @@
 -- An item is taken out below a node.
 use Rattle.std.proofs.Common.{◌≡◌, ◌≢◌, ◌≤◌, ◌<◌, ◌+◌, ◌*◌, ℕ, suc, true, false, List, [], ◌∷◌, ◌++◌, length, slice_get, refl, ap, ◌∙◌, sym, subst, Option, Some, None, arith}
 use Rattle.std.specs.Prelude.{All, insert, remove}
+use Rattle.std.specs.List.{sum_by}
 use Rattle.std.proofs.lemmas.List.{append-nil, length-append, length-map}
-use Rattle.std.proofs.lemmas.List.Elements.{All-nil, All-cons, All-head, All-append, All-same}
+use Rattle.std.proofs.lemmas.List.Elements.{All-nil, All-cons, All-head, All-tail, All-append, All-same}
 use Rattle.std.proofs.lemmas.List.Sums.{sum_by-cons}
 use Rattle.std.proofs.lemmas.Option.{same_Some}
 use Rattle.blk_base.specs.declared.key.Key.{Key}
 use Rattle.blk_base.specs.Address.{IsAllowed}
 use Rattle.blk_base.specs.Keys.{keys_rise}
 use Rattle.blk_base.specs.Leaf.{Item, Pointer}
-use Rattle.block_table.specs.declared.state.SlotState.TheVariants.{Free, LetGo}
+use Rattle.block_table.specs.declared.state.SlotState.TheVariants.{Free, Dirty, LetGo}
 use Rattle.block_table.specs.Table.{Table}
-use Rattle.block_table.specs.TreeIn.{IsTaken, ItemsRise, NoneTwice, block_at, first_key}
+use Rattle.block_table.specs.TreeIn.{IsSealedSubtree, IsTaken, ItemsRise, NoneTwice, block_at, first_key}
 use Rattle.leaf_view.specs.Search.{IsPlace, children_of, keys_of, pointer_keys}
 use Rattle.tree_range.specs.Shape.{items_below, leaf_items, node_pointers, reach_below}
 use Rattle.tree_range.specs.Path.{IsChildPlace, key_behind}
+use Rattle.tree_range.proofs.Rise.{All-left, All-right}
 use Rattle.tree_blocks.specs.Lists.{IsNodeBlock, node_list}
 use Rattle.tree_blocks.specs.Steps.{IsDirtyNode, node_at}
 use Rattle.tree_blocks.proofs.Listing.{node_from_ok, node_to_ok}
 use Rattle.tree_blocks.proofs.Orders.{pointer_keys-append}
 use Rattle.tree_frame.specs.Frame.{IsEdit, TakesAtMost, leaves_below, without_item}
+use Rattle.tree_delete.specs.Seals.{IsSealedRow, want_of}
+use Rattle.tree_delete.specs.Ahead.{IsBetween, TakesAhead, copies_of, nodes_ahead, row_ahead}
 use Rattle.tree_delete.specs.Rows.{HasItemBelow, IsChildOf, IsLessNode, IsNodeOver, row_items, row_reach}
 use Rattle.tree_delete.specs.Steps.{IsCurrentNode}
 use Rattle.tree_frame.proofs.Members.{in_nothing}
+use Rattle.tree_delete.proofs.Seals.{dirty_leaf_sealed, dirty_node_sealed, sealed_children}
+use Rattle.tree_delete.proofs.Ahead.{dirty_ahead, leaves_ahead, node_ahead, takes_one}
 use Rattle.tree_delete.proofs.Blocks.{node_same}
 use Rattle.tree_delete.proofs.Cuts.{at_cut, length_at}
 use Rattle.tree_delete.proofs.Edits.{takes_join, takes_more}
 use Rattle.tree_delete.proofs.Items.{rise_without}
 use Rattle.tree_delete.proofs.Nodes.{IsKid, child_of_kid}
 use Rattle.tree_delete.proofs.Pairs.{dirty_used, keys_above, keys_before, keys_right, place_between, same_allowed}
-use Rattle.tree_delete.proofs.Rows.{Begins, firsts_of, over_from, row_first, row_keys_rise}
+use Rattle.tree_delete.proofs.Rows.{Begins, firsts_of, leaves_cut, leaves_one, over_from, row_first, row_keys_rise}
 use Rattle.tree_delete.proofs.Steps.{IsBeside, IsChildDone, IsNodeDone, IsRowDone, IsWay, beside, node_done, row_done, way_of}
 
 abbrev child_pair : Pointer → ℕ × ℕ
@@ -132,6 +138,21 @@ module _ (level : ℕ) (old mid : Table) (at : ℕ) (key : Key) (lefts : List Po
   turn_keys : All (Begins (λ (q : Pointer). items_below level mid q.at)) made → keys_rise (pointer_keys (lefts ++ (made ++ rights))) ≡ true
   turn_keys firsts = row_keys_rise (λ (q : Pointer). items_below level mid q.at) (lefts ++ (made ++ rights)) (turn_begins firsts) turn_rises
 
+  -- what is ahead below the node's pointers changes as it does below the child
+  pub turn_ahead : (first last : Key) → row_ahead first last level mid (lefts ++ (made ++ rights)) + nodes_ahead first last level old p.at ≡ row_ahead first last level old (node_pointers old at) + row_ahead first last level mid made
+  turn_ahead first last =
+      let f : Pointer → ℕ = λ (q : Pointer). nodes_ahead first last level mid q.at in
+      let g : Pointer → ℕ = λ (q : Pointer). nodes_ahead first last level old q.at in
+      omega (arith, leaves_cut f lefts made rights, side.lefts_alike.ahead first last, side.rights_alike.ahead first last, ap (sum_by g) turn.way.split, leaves_one g lefts p rights)
+
+  turn_sealed : (fsid : List ℕ) (owner : ℕ) → IsSealedRow fsid owner level old (node_pointers old at) → IsSealedRow fsid owner level mid (lefts ++ (made ++ rights))
+  turn_sealed fsid owner h =
+      let S : Pointer → Type 0 = λ (q : Pointer). IsSealedSubtree level old (want_of fsid owner level q) in
+      let T : Pointer → Type 0 = λ (q : Pointer). IsSealedSubtree level mid (want_of fsid owner level q) in
+      let all = All-same S (lefts ++ p ∷ rights) (node_pointers old at) (sym turn.way.split) h in
+      let behind = All-right S lefts (p ∷ rights) all in
+      All-append T lefts (made ++ rights) (side.lefts_alike.sealed fsid owner (All-left S lefts (p ∷ rights) all)) (All-append T made rights (turn.done.sealed fsid owner (All-head S p rights behind)) (side.rights_alike.sealed fsid owner (All-tail S p rights behind)))
+
   -- the node stands elsewhere with these pointers
   module _ (new : Table) (result : ℕ) (edit : IsEdit mid new (at ∷ []) (result ∷ [])) (node : IsDirtyNode new result) (allowed : IsAllowed (length new.slots) result) (pointers : node_at new result ≡ lefts ++ (made ++ rights)) where
     pub turn_row : node_pointers new result ≡ lefts ++ (made ++ rights)
@@ -147,18 +168,51 @@ module _ (level : ℕ) (old mid : Table) (at : ℕ) (key : Key) (lefts : List Po
     pub turn_taken : IsTaken new result
     turn_taken = record { allowed = allowed; taken = dirty_used new result node.dirty }
 
-    pub less_node : (taken : ℕ) → TakesAtMost old mid taken → TakesAtMost mid new 1 → taken + 1 ≤ 2 * level + 2 → All (IsChildOf level mid) made → IsLessNode level old new at result key
+    pub turn_fewer : length (node_pointers new result) ≤ length (node_pointers old at)
+    turn_fewer =
+        let few = turn.done.one in
+        omega (arith, few, ap (λ (l : List Pointer). length l) turn.way.split, length-append lefts (p ∷ rights), ap (λ (l : List Pointer). length l) turn_row, length-append lefts (made ++ rights), length-append made rights)
+
+    pub turn_sealed_there : (fsid : List ℕ) (owner : ℕ) → IsSealedRow fsid owner level old (node_pointers old at) → IsSealedRow fsid owner level new (node_pointers new result)
+    turn_sealed_there fsid owner h =
+        let T : Pointer → Type 0 = λ (q : Pointer). IsSealedSubtree level new (want_of fsid owner level q) in
+        All-same T (node_pointers new result) (lefts ++ (made ++ rights)) turn_row (turned.row_alike.sealed fsid owner (turn_sealed fsid owner h))
+
+    -- it takes what is no longer ahead, and one more where the child stays
+    turn_takes : (first last : Key) → IsBetween first last key → TakesAtMost mid new (copies_of (block_at mid at).state) → TakesAhead old new (nodes_ahead first last (suc level) old at + length (node_pointers new result)) (nodes_ahead first last (suc level) new result + length (node_pointers old at))
+    turn_takes first last between two =
+        let moved = turn_ahead first last in
+        let was = node_ahead first last key level old at turn.below between in
+        let own = ap (λ slot. copies_of slot.state) side.same in
+        let is = dirty_ahead first last level new result node.dirty in
+        let row_is = ap (row_ahead first last level new) turn_row in
+        let same = turned.row_alike.ahead first last in
+        let child = turn.done.ahead first last between in
+        let long = ap (λ (l : List Pointer). length l) turn.way.split in
+        let long_cut = length-append lefts (p ∷ rights) in
+        let long_new = ap (λ (l : List Pointer). length l) turn_row in
+        let long_row = length-append lefts (made ++ rights) in
+        let long_made = length-append made rights in
+        record {
+          spare = omega (arith, moved, was, own, is, row_is, same, child.spare, two.spare, long, long_cut, long_new, long_row, long_made);
+          free = omega (arith, moved, was, own, is, row_is, same, child.free, two.free, long, long_cut, long_new, long_row, long_made);
+        }
+
+    pub less_node : (taken : ℕ) → TakesAtMost old mid taken → TakesAtMost mid new (copies_of (block_at mid at).state) → taken + 1 ≤ 2 * level + 2 → All (IsChildOf level mid) made → IsLessNode level old new at result key
     less_node taken one two few children =
         let all : All (IsChildOf level mid) (lefts ++ (made ++ rights)) = All-append (IsChildOf level mid) lefts (made ++ rights) (side.lefts_alike.children turn.way.lefts_good) (All-append (IsChildOf level mid) made rights children (side.rights_alike.children turn.way.rights_good)) in
         record {
           shape = record { taken = turn_taken; body = node_to_ok (block_at new result).bytes node.body; children = All-same (IsChildOf level new) (node_pointers new result) (lefts ++ (made ++ rights)) turn_row (turned.row_alike.children all) };
           dirty = node.dirty;
           count = turn_count;
+          fewer = turn_fewer;
           items = turned.items;
           once = turned.whole.once;
           edit = turned.edit;
-          blocks = takes_more old new (taken + 1) (2 * level + 2) few (takes_join old mid new taken 1 one two);
+          blocks = takes_more old new (taken + 1) (2 * level + 2) few (takes_join old mid new taken 1 one (takes_one mid new (block_at mid at).state two));
+          ahead = λ first last between. turn_takes first last between two;
           leaves = turned.leaves;
+          sealed = turn_sealed_there;
         }
 
 -- a child's new key has its place among the others
@@ -174,12 +228,28 @@ turn_order level old mid at key lefts p rights q turn first =
 -- ---- leaves below the node
 
 -- the leaf is let go
-pub leaf_gone : (old mid : Table) (at : ℕ) (key : Key) (p : Pointer) → IsEdit old mid (p.at ∷ []) [] → [] ≡ without_item key (leaf_items old p.at) → IsChildDone 0 old mid key p []
-leaf_gone old mid at key p edit items = record { edit = edit; once = tt; items = items; leaves = omega arith }
+pub leaf_gone : (old mid : Table) (at : ℕ) (key : Key) (p : Pointer) → IsEdit old mid (p.at ∷ []) [] → [] ≡ without_item key (leaf_items old p.at) → TakesAtMost old mid 0 → IsChildDone 0 old mid key p []
+leaf_gone old mid at key p edit items blocks = record {
+  edit = edit;
+  once = tt;
+  items = items;
+  leaves = omega arith;
+  one = omega arith;
+  sealed = λ fsid owner h. All-nil (λ (q : Pointer). IsSealedSubtree 0 mid (want_of fsid owner 0 q));
+  ahead = λ first last between. record { spare = omega (arith, blocks.spare); free = omega (arith, blocks.free) };
+}
 
 -- or it has an item less
-pub leaf_less : (old mid : Table) (key : Key) (p q : Pointer) → IsEdit old mid (p.at ∷ []) (q.at ∷ []) → leaf_items mid q.at ++ [] ≡ without_item key (leaf_items old p.at) → IsChildDone 0 old mid key p (q ∷ [])
-leaf_less old mid key p q edit items = record { edit = edit; once = ((λ there. in_nothing q.at there), tt); items = items; leaves = omega (arith, sum_by-cons (λ (r : Pointer). leaves_below 0 mid r.at) q []) }
+pub leaf_less : (old mid : Table) (key : Key) (p q : Pointer) → IsEdit old mid (p.at ∷ []) (q.at ∷ []) → leaf_items mid q.at ++ [] ≡ without_item key (leaf_items old p.at) → TakesAtMost old mid 1 → (block_at mid q.at).state ≡ Dirty → IsChildDone 0 old mid key p (q ∷ [])
+leaf_less old mid key p q edit items blocks dirty = record {
+  edit = edit;
+  once = ((λ there. in_nothing q.at there), tt);
+  items = items;
+  leaves = omega (arith, sum_by-cons (λ (r : Pointer). leaves_below 0 mid r.at) q []);
+  one = omega arith;
+  sealed = λ fsid owner h. let T : Pointer → Type 0 = λ (r : Pointer). IsSealedSubtree 0 mid (want_of fsid owner 0 r) in All-cons T q [] (dirty_leaf_sealed mid (want_of fsid owner 0 q) dirty) (All-nil T);
+  ahead = λ first last between. let none = leaves_ahead first last mid (q ∷ []) in record { spare = omega (arith, none, blocks.spare); free = omega (arith, none, blocks.free) };
+}
 
 -- the first key of a list whose first key is read
 pub first_read : (items : List Item) (key : Key) → slice_get (keys_of items) 0 ≡ Some key → first_key items ≡ Some key
@@ -215,6 +285,16 @@ child_less level old mid key p q less =
       once = subst NoneTwice (sym (single reach)) less.once;
       items = append-nil (items_below (suc level) mid q.at) ∙ less.items;
       leaves = omega (arith, sum_by-cons (λ (r : Pointer). leaves_below (suc level) mid r.at) q [], less.leaves);
+      one = omega arith;
+      sealed = λ fsid owner h.
+          let T : Pointer → Type 0 = λ (r : Pointer). IsSealedSubtree (suc level) mid (want_of fsid owner (suc level) r) in
+          let row = less.sealed fsid owner (sealed_children level old (want_of fsid owner (suc level) p) h) in
+          All-cons T q [] (dirty_node_sealed level mid (want_of fsid owner (suc level) q) less.dirty row) (All-nil T);
+      ahead = λ first last between.
+          let row = sum_by-cons (λ (r : Pointer). nodes_ahead first last (suc level) mid r.at) q [] in
+          let takes = less.ahead first last between in
+          let fewer = less.fewer in
+          record { spare = omega (arith, row, takes.spare, fewer); free = omega (arith, row, takes.free, fewer) };
     }
 
 pub less_first : (level : ℕ) (old mid : Table) (at child : ℕ) (key first : Key) → IsLessNode level old mid at child key → slice_get (pointer_keys (node_at mid child)) 0 ≡ Some first → first_key (items_below (suc level) mid child) ≡ Some first

@@ -73,9 +73,9 @@ still P mid new (p ∷ pointers) step h all =
     let Q : ℕ → Type 0 = λ (a : ℕ). block_at new a ≡ block_at mid a in
     All-cons (P new) p pointers (step p (All-head Q p.at (ats_of pointers) h) (All-head (P mid) p pointers all)) (still P mid new pointers step (All-tail Q p.at (ats_of pointers) h) (All-tail (P mid) p pointers all))
 
-pub evened : (old mid new : Table) (at place : ℕ) (h : HasPair old at place) (pointers : List Pointer) → IsShared old mid h.left.at h.right.at (ats_of pointers) → All (λ (p : Pointer). key_behind (node_at mid p.at) None ≡ Some p.key) pointers → 1 ≤ length pointers
+pub evened : (old mid new : Table) (at place : ℕ) (h : HasPair old at place) (pointers : List Pointer) → IsShared old mid h.left.at h.right.at (ats_of pointers) → All (λ (p : Pointer). key_behind (node_at mid p.at) None ≡ Some p.key) pointers → 1 ≤ length pointers → length pointers ≤ 2
     → IsEdit mid new (at ∷ []) (at ∷ []) → IsDirtyNode new at → node_at new at ≡ h.lefts ++ (pointers ++ h.rights) → new.spare ≡ mid.spare → free_blocks new ≡ free_blocks mid → IsEven old new at place h
-evened old mid new at place h pointers shared firsts some edit node is spare free =
+evened old mid new at place h pointers shared firsts some few edit node is spare free =
     let made = ats_of pointers in
     let under = shared_under old mid at place h made shared in
     let c = carry mid new (at ∷ []) (at ∷ []) made (at ∷ made) (at ∷ made) edit (one_once at) under.whole (λ x. refl) (λ x. refl) in
@@ -90,9 +90,10 @@ evened old mid new at place h pointers shared firsts some edit node is spare fre
       allowed = still (λ t p. IsAllowed (length t.slots) p.at) mid new pointers (λ p same k. same_allowed mid new p.at size k) c.alike (All-unmap (λ (a : ℕ). IsAllowed (length mid.slots) a) (λ (p : Pointer). p.at) pointers shared.allowed);
       firsts = still (λ t p. key_behind (node_at t p.at) None ≡ Some p.key) mid new pointers (λ p same k. ap (λ (l : List Pointer). key_behind l None) (same_node mid new p.at same) ∙ k) c.alike firsts;
       some = some;
+      few = few;
       once = c.whole.once;
       edit = edits_join old mid new (at ∷ h.left.at ∷ h.right.at ∷ []) (at ∷ made) (at ∷ made) under.edit c.edit;
-      blocks = record { spare = omega (arith, shared.blocks.spare, spare); free = omega (arith, shared.blocks.free, free) };
+      blocks = let long = length-map pointers (λ (p : Pointer). p.at) in record { spare = omega (arith, shared.blocks.spare, spare, long); free = omega (arith, shared.blocks.free, free, long) };
     }
 
 -- ---- the node's list of pointers
@@ -244,7 +245,7 @@ even_one old mid new at place left h shared edit node pointers spare free =
     let B : Pointer → Type 0 = λ (p : Pointer). key_behind (node_at mid p.at) None ≡ Some p.key in
     let least = All-head (λ (a : ℕ). 30 ≤ length (node_at mid a)) left [] shared.least in
     let first : key_behind (node_at mid left) None ≡ Some h.left.key = left_first (node_at mid left) [] (node_at old h.left.at) (node_at old h.right.at) h.left.key (omega (arith, least)) shared.lists h.first in
-    evened old mid new at place h (left_to h.left left ∷ []) shared (All-cons B (left_to h.left left) [] first (All-nil B)) (omega arith) edit node (then_pointers old mid at place h (left ∷ []) shared new left edit node pointers) spare free
+    evened old mid new at place h (left_to h.left left ∷ []) shared (All-cons B (left_to h.left left) [] first (All-nil B)) (omega arith) (omega arith) edit node (then_pointers old mid at place h (left ∷ []) shared new left edit node pointers) spare free
 
 module _ (old mid then : Table) (at place left right : ℕ) (h : HasPair old at place) (shared : IsShared old mid h.left.at h.right.at (left ∷ right ∷ [])) (edit : IsEdit mid then (at ∷ []) (at ∷ [])) (node : IsDirtyNode then at) (pointers : node_at then at ≡ remove (with_child (node_at mid at) place left 0) (place + 1)) where
   alike_right : block_at then right ≡ block_at mid right
@@ -286,4 +287,4 @@ module _ (old mid then : Table) (at place left right : ℕ) (h : HasPair old at 
       let left_key : key_behind (node_at mid left) None ≡ Some h.left.key = left_first (node_at mid left) (node_at mid right) (node_at old h.left.at) (node_at old h.right.at) h.left.key left_some both_lists h.first in
       let q : Pointer = record { key = first.0; at = right; generation = 0 } in
       let row : node_at new at ≡ h.lefts ++ left_to h.left left ∷ q ∷ h.rights = inserted_at first.0 first_then ∙ inserted (node_at then at) h.lefts (left_to h.left left) q h.rights place (then_pointers old mid at place h (left ∷ right ∷ []) shared then left edit node pointers) h.long in
-      evened old mid new at place h (left_to h.left left ∷ q ∷ []) shared (All-cons B (left_to h.left left) (q ∷ []) left_key (All-cons B q [] first.1 (All-nil B))) (omega arith) (edits_join mid then new (at ∷ []) (at ∷ []) (at ∷ []) edit edit_new) node_new row (spare_new ∙ spare) (free_new ∙ free)
+      evened old mid new at place h (left_to h.left left ∷ q ∷ []) shared (All-cons B (left_to h.left left) (q ∷ []) left_key (All-cons B q [] first.1 (All-nil B))) (omega arith) (omega arith) (edits_join mid then new (at ∷ []) (at ∷ []) (at ∷ []) edit edit_new) node_new row (spare_new ∙ spare) (free_new ∙ free)

@@ -18,6 +18,7 @@ use Rattle.tree_blocks.proofs.Listing.{leaf_from_ok, leaf_to_ok}
 use Rattle.tree_frame.specs.Frame.{IsEdit, TakesAtMost, without_item}
 use Rattle.tree_frame.proofs.EditLaws.{edits_join}
 use Rattle.tree_frame.proofs.StepLaws.{new_bytes_are_an_edit}
+use Rattle.tree_delete.proofs.Ahead.{takes_one}
 use Rattle.tree_delete.proofs.Blocks.{IsOwned, leaf_same}
 use Rattle.tree_delete.proofs.Items.{present_found, without_at}
 use Rattle.tree_delete.proofs.Pairs.{dirty_used, same_allowed}
@@ -76,7 +77,9 @@ module _ (old mid : Table) (at copy : ℕ) (key : Key) (h : IsLeafCopy old mid a
     removed_edit = edits_join old mid new (at ∷ []) (copy ∷ []) (copy ∷ []) h.own.edit (new_bytes_are_an_edit mid new copy h.dirty kept others)
 
     pub removed_blocks : TakesAtMost old new 1
-    removed_blocks = record { spare = omega (arith, h.own.blocks.spare, spare); free = omega (arith, h.own.blocks.free, free) }
+    removed_blocks =
+        let own = takes_one old mid (block_at old at).state h.own.blocks in
+        record { spare = omega (arith, own.spare, spare); free = omega (arith, own.free, free) }
 
 -- ---- a leaf that isn't the root
 

@@ -4,6 +4,8 @@ pub mod Edits
 pub mod Blocks
 pub mod Items
 pub mod Places
+pub mod Ahead
+pub mod Seals
 pub mod Rows
 pub mod Steps
 pub mod Pairs

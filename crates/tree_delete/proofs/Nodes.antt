@@ -6,12 +6,13 @@ use Rattle.std.proofs.lemmas.List.{length-append}
 use Rattle.std.proofs.lemmas.List.Concat.{flat_map-append}
 use Rattle.std.proofs.lemmas.List.Elements.{All-nil, All-cons, All-head, All-tail, All-append, All-same, All-weaker}
 use Rattle.std.proofs.lemmas.List.Sums.{sum_by-append, sum_by-cons}
+use Rattle.blk_base.specs.declared.key.Key.{Key}
 use Rattle.blk_base.specs.Address.{IsAllowed}
 use Rattle.blk_base.specs.Keys.{KeyBelow, keys_rise}
 use Rattle.blk_base.specs.Leaf.{Item, Pointer}
 use Rattle.block_table.specs.declared.state.SlotState.TheVariants.{Dirty, LetGo}
 use Rattle.block_table.specs.Table.{Table}
-use Rattle.block_table.specs.TreeIn.{ItemsRise, NoneTwice, block_at, first_key}
+use Rattle.block_table.specs.TreeIn.{IsSealedSubtree, ItemsRise, NoneTwice, block_at, first_key}
 use Rattle.leaf_view.specs.Search.{pointer_keys}
 use Rattle.tree_range.specs.Shape.{AreAlike, items_below, node_pointers, reach_below}
 use Rattle.tree_range.specs.Part.{times_in}
@@ -21,8 +22,12 @@ use Rattle.tree_range.proofs.Rise.{All-left, All-right, rise_left, rise_right}
 use Rattle.tree_blocks.specs.Steps.{IsDirtyNode, node_at}
 use Rattle.tree_blocks.proofs.Listing.{node_from_ok, node_to_ok}
 use Rattle.tree_frame.specs.Frame.{AreCurrent, IsEdit, leaves_below}
+use Rattle.tree_delete.specs.Seals.{IsSealedRow, want_of}
+use Rattle.tree_delete.specs.Ahead.{nodes_ahead, row_ahead}
 use Rattle.tree_delete.specs.Rows.{IsChildOf, IsNodeOver, row_items, row_leaves, row_reach}
 use Rattle.tree_delete.specs.Steps.{HasPair, IsCurrentNode, IsEven, ats_of}
+use Rattle.tree_delete.proofs.Seals.{dirty_node_sealed, sealed_children}
+use Rattle.tree_delete.proofs.Ahead.{below_ahead, dirty_ahead}
 use Rattle.tree_delete.proofs.Blocks.{node_same}
 use Rattle.tree_delete.proofs.Edits.{IsCarried, IsWhole, carry}
 use Rattle.tree_delete.proofs.Lists.{IsShuffle, contains_behind, contains_first, none_twice_from, none_twice_to, shuffle_all, times_append}
@@ -68,6 +73,16 @@ inner_leaves level table (p ∷ pointers) =
     let n : Pointer → ℕ = λ (q : Pointer). leaves_below level table q.at in
     let n_above : Pointer → ℕ = λ (q : Pointer). leaves_below (suc level) table q.at in
     omega (arith, sum_by-cons n_above p pointers, inner_leaves level table pointers, sum_by-append n (node_pointers table p.at) (inner_of table pointers))
+
+-- a node of them may be one that is ahead, and none is where all of them are Dirty
+pub inner_ahead : (first last : Key) (level : ℕ) (table : Table) (pointers : List Pointer) → All (λ (p : Pointer). IsDirtyNode table p.at) pointers → row_ahead first last (suc level) table pointers ≡ row_ahead first last level table (inner_of table pointers)
+inner_ahead first last level table [] dirty = refl
+inner_ahead first last level table (p ∷ pointers) dirty =
+    let D : Pointer → Type 0 = λ (q : Pointer). IsDirtyNode table q.at in
+    let n : Pointer → ℕ = λ (q : Pointer). nodes_ahead first last level table q.at in
+    let n_above : Pointer → ℕ = λ (q : Pointer). nodes_ahead first last (suc level) table q.at in
+    let here = dirty_ahead first last level table p.at (All-head D p pointers dirty).dirty in
+    omega (arith, sum_by-cons n_above p pointers, inner_ahead first last level table pointers (All-tail D p pointers dirty), sum_by-append n (node_pointers table p.at) (inner_of table pointers), here)
 
 pub inner_reach : (level : ℕ) (table : Table) (pointers : List Pointer) (x : ℕ) → times_in x (row_reach (suc level) table pointers) ≡ times_in x (ats_of pointers) + times_in x (row_reach level table (inner_of table pointers))
 inner_reach level table [] x = omega arith
@@ -228,11 +243,18 @@ pub record IsNodeEven (level : ℕ) (old new : Table) (at : ℕ) : Type 0 where
   pub items : items_below (suc (suc level)) new at ≡ items_below (suc (suc level)) old at
   pub leaves : leaves_below (suc (suc level)) new at ≡ leaves_below (suc (suc level)) old at
   pub count : length (node_pointers old at) ≤ length (node_pointers new at) + 1
+  pub sealed : (fsid : List ℕ) (owner : ℕ) → IsSealedRow fsid owner (suc level) old (node_pointers old at) → IsSealedRow fsid owner (suc level) new (node_pointers new at)
+  pub ahead : (first last : Key) → nodes_ahead first last (suc (suc level)) new at ≤ nodes_ahead first last (suc (suc level)) old at
 
 all_inner : (P : Pointer → Type 0) (table : Table) (pointers : List Pointer) → All P (inner_of table pointers) → All (λ (p : Pointer). All P (node_pointers table p.at)) pointers
 all_inner P table [] h = All-nil (λ (p : Pointer). All P (node_pointers table p.at))
 all_inner P table (p ∷ pointers) h =
     All-cons (λ (q : Pointer). All P (node_pointers table q.at)) p pointers (All-left P (node_pointers table p.at) (inner_of table pointers) h) (all_inner P table pointers (All-right P (node_pointers table p.at) (inner_of table pointers) h))
+
+-- nodes that are being edited have nothing to pass, and what is below them is
+inner_sealed : (fsid : List ℕ) (owner level : ℕ) (table : Table) (pointers : List Pointer) → All (λ (p : Pointer). IsDirtyNode table p.at) pointers → All (λ (p : Pointer). IsSealedRow fsid owner level table (node_pointers table p.at)) pointers → IsSealedRow fsid owner (suc level) table pointers
+inner_sealed fsid owner level table pointers nodes below =
+    λ k d inside. dirty_node_sealed level table (want_of fsid owner (suc level) (slice_index_or pointers k d)) (nodes k d inside).dirty (below k d inside)
 
 -- a node that was made is a child
 made_child : (level : ℕ) (table : Table) (pointer : Pointer) → IsDirtyNode table pointer.at → IsAllowed (length table.slots) pointer.at → 30 ≤ length (node_at table pointer.at) → key_behind (node_at table pointer.at) None ≡ Some pointer.key → All (IsChildOf level table) (node_pointers table pointer.at) → IsChildOf (suc level) table pointer
@@ -249,6 +271,11 @@ made_children level table pointers nodes allowed least firsts children =
     λ k d inside. made_child level table (slice_index_or pointers k d) (nodes k d inside) (allowed k d inside) (least k d inside) (firsts k d inside) (children k d inside)
 
 module _ (level : ℕ) (old new : Table) (at place : ℕ) (pair : HasPair old at place) (h : IsKidPair level old at pair.lefts pair.left pair.right pair.rights) (even : IsEven old new at place pair) where
+  -- the node has as many pointers fewer as the two were more
+  pub made_count : length (node_pointers new at) + 2 ≡ length (node_pointers old at) + length even.made
+  made_count =
+      omega (arith, ap (λ (l : List Pointer). length l) h.split, length-append pair.lefts (pair.left ∷ pair.right ∷ pair.rights), ap (λ (l : List Pointer). length l) (node_same new at ∙ even.pointers), length-append pair.lefts (even.made ++ pair.rights), length-append even.made pair.rights)
+
   first_carry : IsCarried old new (under level old at pair.lefts pair.left pair.right pair.rights h) (reach_below (suc (suc level)) old at) ((at ∷ ats_of even.made) ++ under level old at pair.lefts pair.left pair.right pair.rights h)
   first_carry =
       carry old new (at ∷ pair.left.at ∷ pair.right.at ∷ []) (at ∷ ats_of even.made) (under level old at pair.lefts pair.left pair.right pair.rights h) (reach_below (suc (suc level)) old at) ((at ∷ ats_of even.made) ++ under level old at pair.lefts pair.left pair.right pair.rights h) even.edit even.once h.whole (shuffle_cut level old at pair.lefts pair.left pair.right pair.rights h) (λ x. refl)
@@ -312,4 +339,29 @@ module _ (level : ℕ) (old new : Table) (at place : ℕ) (pair : HasPair old at
             ∙ ap (λ (l : List Item). row_items (suc level) old lefts ++ (l ++ row_items (suc level) old rights)) made_items ∙ sym (items_cut level old at lefts a b rights h);
         leaves = omega (arith, ap (sum_by n) row, leaves_cut n lefts made rights, left_row.leaves, right_row.leaves, made_leaves, leaves_old);
         count = omega (arith, ap (λ (l : List Pointer). length l) h.split, length-append lefts (a ∷ b ∷ rights), ap (λ (l : List Pointer). length l) row, length-append lefts (made ++ rights), length-append made rights, even.some);
+        sealed = λ fsid owner sealed.
+            let S : Pointer → Type 0 = λ (q : Pointer). IsSealedSubtree (suc level) old (want_of fsid owner (suc level) q) in
+            let T : Pointer → Type 0 = λ (q : Pointer). IsSealedSubtree (suc level) new (want_of fsid owner (suc level) q) in
+            let T_in : Pointer → Type 0 = λ (q : Pointer). IsSealedSubtree level new (want_of fsid owner level q) in
+            let all = All-same S (lefts ++ a ∷ b ∷ rights) (node_pointers old at) (sym h.split) sealed in
+            let two = All-right S lefts (a ∷ b ∷ rights) all in
+            let behind = All-tail S a (b ∷ rights) two in
+            let below_a = a_row.sealed fsid owner (sealed_children level old (want_of fsid owner (suc level) a) (All-head S a (b ∷ rights) two)) in
+            let below_b = b_row.sealed fsid owner (sealed_children level old (want_of fsid owner (suc level) b) (All-head S b rights behind)) in
+            let below = All-same T_in (inner_of new made) (ps_a ++ ps_b) inner (All-append T_in ps_a ps_b below_a below_b) in
+            let made_sealed = inner_sealed fsid owner level new made even.nodes (all_inner T_in new made below) in
+            All-same T (node_pointers new at) (lefts ++ (made ++ rights)) row (All-append T lefts (made ++ rights) (left_row.sealed fsid owner (All-left S lefts (a ∷ b ∷ rights) all)) (All-append T made rights made_sealed (right_row.sealed fsid owner (All-tail S b rights behind))));
+        ahead = λ first last.
+            let h_above : Pointer → ℕ = λ (q : Pointer). nodes_ahead first last (suc level) new q.at in
+            let h_old : Pointer → ℕ = λ (q : Pointer). nodes_ahead first last (suc level) old q.at in
+            let h_in : Pointer → ℕ = λ (q : Pointer). nodes_ahead first last level new q.at in
+            let here = dirty_ahead first last (suc level) new at even.node.dirty in
+            let row_is = ap (row_ahead first last (suc level) new) row in
+            let cut = leaves_cut h_above lefts made rights in
+            let made_is = inner_ahead first last level new made even.nodes in
+            let inner_is = ap (row_ahead first last level new) inner in
+            let both = sum_by-append h_in ps_a ps_b in
+            let split = ap (row_ahead first last (suc level) old) h.split in
+            let cut_old = sum_by-append h_old lefts (a ∷ b ∷ rights) in
+            omega (arith, here, row_is, cut, made_is, inner_is, both, a_row.ahead first last, b_row.ahead first last, left_row.ahead first last, right_row.ahead first last, below_ahead first last (suc level) old at, split, cut_old, sum_by-cons h_old a (b ∷ rights), sum_by-cons h_old b rights, below_ahead first last level old a.at, below_ahead first last level old b.at);
       }

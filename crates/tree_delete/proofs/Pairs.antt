@@ -28,6 +28,7 @@ use Rattle.tree_delete.specs.Steps.{IsCurrentNode, IsDirtyPair, IsOwnedPair, IsP
 use Rattle.tree_frame.proofs.EditLaws.{edits_join}
 use Rattle.tree_frame.proofs.Members.{in_nothing, in_one}
 use Rattle.tree_frame.proofs.StepLaws.{join_is_an_edit, new_bytes_are_an_edit}
+use Rattle.tree_delete.proofs.Ahead.{takes_one}
 use Rattle.tree_delete.proofs.Blocks.{IsOwned}
 use Rattle.tree_delete.proofs.Cuts.{cut_at, at_within}
 use Rattle.tree_delete.proofs.Edits.{IsWhole, carry}
@@ -101,7 +102,7 @@ own_right old new left right copy pair left_dirty own dirty bytes =
       left_same = same_node old new left same;
       right_same = ap node_list bytes;
       edit = c.edit;
-      blocks = own.blocks;
+      blocks = takes_one old new (block_at old right).state own.blocks;
     }
 
 pub own_left : (old new : Table) (left right copy : ℕ) → IsPair old left right → (block_at old right).state ≡ Dirty → IsOwned old new left copy → (block_at new copy).state ≡ Dirty → (block_at new copy).bytes ≡ (block_at old left).bytes → IsOwnedPair old new left right copy right
@@ -119,7 +120,7 @@ own_left old new left right copy pair right_dirty own dirty bytes =
       left_same = ap node_list bytes;
       right_same = same_node old new right same;
       edit = c.edit;
-      blocks = own.blocks;
+      blocks = takes_one old new (block_at old left).state own.blocks;
     }
 
 -- ---- one node of two has other pointers, and then the other

@@ -6,11 +6,12 @@ use Rattle.std.proofs.lemmas.List.{append-nil}
 use Rattle.std.proofs.lemmas.List.Elements.{All-nil, All-cons, All-head}
 use Rattle.std.proofs.lemmas.List.Sums.{sum_by-cons}
 use Rattle.blk_base.specs.declared.key.Key.{Key}
+use Rattle.blk_base.specs.declared.key.Want.{Want}
 use Rattle.blk_base.specs.Leaf.{Item, Pointer}
-use Rattle.block_table.specs.declared.state.SlotState.TheVariants.{Free}
+use Rattle.block_table.specs.declared.state.SlotState.TheVariants.{Free, Dirty}
 use Rattle.block_table.specs.declared.tree.Tree.{Tree}
 use Rattle.block_table.specs.Table.{Table}
-use Rattle.block_table.specs.TreeIn.{ItemsRise, NoneTwice, block_at}
+use Rattle.block_table.specs.TreeIn.{IsSealedSubtree, IsSealedTree, ItemsRise, NoneTwice, block_at}
 use Rattle.leaf_view.specs.Search.{children_of}
 use Rattle.tree_range.specs.Shape.{IsSubtree, IsTree, items_below, leaf_items, node_pointers, reach_below, tree_items, tree_reach}
 use Rattle.tree_range.specs.Between.{data_under}
@@ -18,8 +19,12 @@ use Rattle.tree_range.specs.Part.{times_in}
 use Rattle.tree_range.proofs.Local.{alike_below}
 use Rattle.tree_frame.proofs.Counting.{counted_alike}
 use Rattle.tree_frame.specs.Frame.{AreCurrent, IsEdit, TakesAtMost, leaves_below, tree_leaves, without_item}
+use Rattle.tree_delete.specs.Seals.{IsSealedRow, want_of}
+use Rattle.tree_delete.specs.Ahead.{IsBetween, TakesAhead, nodes_ahead, row_ahead, tree_ahead}
 use Rattle.tree_delete.specs.Rows.{HasItemBelow, IsChildOf, IsLessNode, IsLessTree}
 use Rattle.tree_frame.proofs.EditLaws.{edits_join}
+use Rattle.tree_delete.proofs.Seals.{dirty_leaf_sealed, dirty_node_sealed, sealed_alike, sealed_children}
+use Rattle.tree_delete.proofs.Ahead.{ahead_alike, dirty_ahead}
 use Rattle.tree_delete.proofs.Blocks.{IsGone}
 use Rattle.tree_delete.proofs.Deleting.{address_of}
 use Rattle.tree_delete.proofs.Edits.{IsWhole, carry, takes_join, takes_more}
@@ -27,6 +32,10 @@ use Rattle.tree_delete.proofs.Items.{rise_without}
 use Rattle.tree_delete.proofs.Pairs.{one_once}
 use Rattle.tree_delete.proofs.Rows.{as_root, over_from, over_to}
 use Rattle.tree_delete.proofs.Steps.{whole_of}
+
+-- what the root of a tree is to say of itself
+abbrev root_want : List ℕ → Tree → ℕ → ℕ → ℕ → Want
+root_want fsid tree generation level at = record { fsid = fsid; at = record { 0 = at }; generation = generation; owner = tree.owner; level = level }
 
 -- what stands at the new root
 pub record IsLessRoot (level : ℕ) (old new : Table) (tree result : Tree) (key : Key) : Type 0 where
@@ -37,7 +46,9 @@ pub record IsLessRoot (level : ℕ) (old new : Table) (tree result : Tree) (key 
   pub once : NoneTwice (reach_below level new result.root.0)
   pub current : AreCurrent new (reach_below level new result.root.0)
   pub blocks : TakesAtMost old new 17
+  pub ahead : (first last : Key) → IsBetween first last key → TakesAhead old new (tree_ahead first last old tree) (nodes_ahead first last level new result.root.0)
   pub leaves : leaves_below level new result.root.0 ≤ tree_leaves old tree
+  pub sealed : (fsid : List ℕ) (was : ℕ) → IsSealedTree old tree fsid was → (now : ℕ) × IsSealedSubtree level new (root_want fsid tree now level result.root.0)
 
 pub less_tree : (level : ℕ) (old new : Table) (tree result : Tree) (key : Key) → IsTree old tree → result.level ≡ level → result.owner ≡ tree.owner → IsLessRoot level old new tree result key → IsLessTree old new tree result key
 less_tree level old new tree result key is_tree level_is owner h =
@@ -49,7 +60,11 @@ less_tree level old new tree result key is_tree level_is owner h =
       edit = made.edit;
       current = made.current;
       blocks = made.blocks;
+      ahead = made.ahead;
       leaves = made.leaves;
+      sealed = λ fsid was h.
+          let there = made.sealed fsid was h in
+          (there.0, subst (λ (n : ℕ). IsSealedSubtree result.level new (record { fsid = fsid; at = result.root; generation = there.0; owner = n; level = result.level })) (sym owner) there.1);
     }
 
 -- a root on a level above 0 is a node with the item below it
@@ -76,7 +91,9 @@ moved level old new tree one two key same h = record {
   once = subst (λ (at : ℕ). NoneTwice (reach_below level new at)) same h.once;
   current = subst (λ (at : ℕ). AreCurrent new (reach_below level new at)) same h.current;
   blocks = h.blocks;
+  ahead = λ first last between. subst (λ (at : ℕ). TakesAhead old new (tree_ahead first last old tree) (nodes_ahead first last level new at)) same (h.ahead first last between);
   leaves = omega (arith, ap (leaves_below level new) same, h.leaves);
+  sealed = λ fsid was k. let there = h.sealed fsid was k in (there.0, subst (λ (at : ℕ). IsSealedSubtree level new (root_want fsid tree there.0 level at)) same there.1);
 }
 
 -- the edit keeps what it reaches current
@@ -96,6 +113,18 @@ module _ (level : ℕ) (old mid : Table) (tree : Tree) (key : Key) (root : ℕ) 
   leaves_is : leaves_below (suc level) mid root ≤ tree_leaves old tree
   leaves_is = omega (arith, less.leaves, ap (λ (n : ℕ). leaves_below n old tree.root.0) level_is)
 
+  ahead_is : (first last : Key) → IsBetween first last key → TakesAhead old mid (tree_ahead first last old tree) (nodes_ahead first last (suc level) mid root)
+  ahead_is first last between =
+      let takes = less.ahead first last between in
+      let fewer = less.fewer in
+      let was = ap (λ (n : ℕ). nodes_ahead first last n old tree.root.0) level_is in
+      record { spare = omega (arith, takes.spare, fewer, was); free = omega (arith, takes.free, fewer, was) }
+
+  sealed_is : (fsid : List ℕ) (was : ℕ) → IsSealedTree old tree fsid was → IsSealedRow fsid tree.owner level mid (node_pointers mid root)
+  sealed_is fsid was h =
+      let shown : IsSealedSubtree (suc level) old (root_want fsid tree was (suc level) tree.root.0) = subst (λ (n : ℕ). IsSealedSubtree n old (root_want fsid tree was n tree.root.0)) level_is h in
+      less.sealed fsid tree.owner (sealed_children level old (root_want fsid tree was (suc level) tree.root.0) shown)
+
   -- the root keeps two pointers
   pub root_stays : (result : Tree) → result.root.0 ≡ root → 2 ≤ length (node_pointers mid root) → IsLessRoot (suc level) old mid tree result key
   root_stays result root_is long =
@@ -108,7 +137,9 @@ module _ (level : ℕ) (old mid : Table) (tree : Tree) (key : Key) (root : ℕ) 
         once = less.once;
         current = whole.current;
         blocks = takes_more old mid (2 * level + 2) 17 (omega (arith, low, level_is)) less.blocks;
+        ahead = ahead_is;
         leaves = leaves_is;
+        sealed = λ fsid was k. (was, dirty_node_sealed level mid (root_want fsid tree was (suc level) root) less.dirty (sealed_is fsid was k));
       } in
       moved (suc level) old mid tree (record { root = record { 0 = root }; level = tree.level; owner = tree.owner }) result key (sym root_is) at_root
 
@@ -135,7 +166,18 @@ module _ (level : ℕ) (old mid : Table) (tree : Tree) (key : Key) (root : ℕ) 
         once = subst NoneTwice (sym below.reach) c.whole.once;
         current = subst (AreCurrent new) (sym below.reach) c.whole.current;
         blocks = takes_more old new (2 * level + 2 + 0) 17 (omega (arith, low, level_is)) (takes_join old mid new (2 * level + 2) 0 less.blocks gone.blocks);
+        ahead = λ first last between.
+            let takes = ahead_is first last between in
+            let is = dirty_ahead first last level mid root less.dirty in
+            let row_is = ap (row_ahead first last level mid) one in
+            let only = sum_by-cons (λ (q : Pointer). nodes_ahead first last level mid q.at) p [] in
+            let same = ahead_alike first last level mid new p.at c.alike in
+            record { spare = omega (arith, takes.spare, is, row_is, only, same, gone.blocks.spare); free = omega (arith, takes.free, is, row_is, only, same, gone.blocks.free) };
         leaves = omega (arith, (counted_alike level mid new p.at c.alike).leaves, leaves, leaves_is);
+        sealed = λ fsid was k.
+            let S : Pointer → Type 0 = λ (q : Pointer). IsSealedSubtree level mid (want_of fsid tree.owner level q) in
+            let here = All-head S p [] (subst (All S) one (sealed_is fsid was k)) in
+            (p.generation, sealed_alike level mid new (want_of fsid tree.owner level p) c.alike here);
       } in
       moved level old new tree (record { root = record { 0 = p.at }; level = level; owner = tree.owner }) result key (sym root_is) at_child
 
@@ -147,8 +189,8 @@ only_pointer (p ∷ q ∷ pointers) at generation some few h = absurd (omega (ar
 
 -- ---- a root that is a leaf
 
-pub root_leaf : (old new : Table) (tree result : Tree) (key : Key) → tree.level ≡ 0 → IsTree old tree → AreCurrent old (tree_reach old tree) → IsSubtree 0 new true result.root.0 → leaf_items new result.root.0 ≡ without_item key (leaf_items old tree.root.0) → IsEdit old new (tree.root.0 ∷ []) (result.root.0 ∷ []) → TakesAtMost old new 1 → IsLessRoot 0 old new tree result key
-root_leaf old new tree result key level_is is_tree current shape items edit blocks =
+pub root_leaf : (old new : Table) (tree result : Tree) (key : Key) → tree.level ≡ 0 → IsTree old tree → AreCurrent old (tree_reach old tree) → IsSubtree 0 new true result.root.0 → leaf_items new result.root.0 ≡ without_item key (leaf_items old tree.root.0) → IsEdit old new (tree.root.0 ∷ []) (result.root.0 ∷ []) → TakesAtMost old new 1 → (block_at new result.root.0).state ≡ Dirty → IsLessRoot 0 old new tree result key
+root_leaf old new tree result key level_is is_tree current shape items edit blocks dirty =
     let root = tree.root.0 in
     let reach_is : tree_reach old tree ≡ root ∷ [] = ap (λ (n : ℕ). reach_below n old root) level_is in
     let current_root : AreCurrent old (root ∷ []) = subst (AreCurrent old) reach_is current in
@@ -164,5 +206,7 @@ root_leaf old new tree result key level_is is_tree current shape items edit bloc
       once = one_once result.root.0;
       current = c.whole.current;
       blocks = takes_more old new 1 17 (omega arith) blocks;
+      ahead = λ first last between. record { spare = omega (arith, blocks.spare); free = omega (arith, blocks.free) };
       leaves = omega (arith, ap (λ (n : ℕ). leaves_below n old root) level_is);
+      sealed = λ fsid was k. (was, dirty_leaf_sealed new (root_want fsid tree was 0 result.root.0) dirty);
     }

@@ -20,7 +20,11 @@ use Rattle.tree_range.proofs.Local.{alike_below, node_pointers_alike, taken_alik
 use Rattle.tree_range.proofs.Rise.{All-left, All-right, first_is, first_append, above_from_first, rise_before, rise_head, rise_right}
 use Rattle.tree_frame.proofs.Counting.{counted_alike}
 use Rattle.tree_frame.specs.Frame.{leaves_below}
+use Rattle.tree_delete.specs.Ahead.{row_ahead}
 use Rattle.tree_delete.specs.Rows.{IsChildOf, IsNodeOver, row_items, row_leaves, row_reach}
+use Rattle.tree_delete.specs.Seals.{IsSealedRow}
+use Rattle.tree_delete.proofs.Ahead.{row_ahead_alike}
+use Rattle.tree_delete.proofs.Seals.{row_sealed_alike}
 
 -- ---- rows in two tables that are alike there
 
@@ -28,6 +32,8 @@ pub record IsAlikeRow (level : ℕ) (old new : Table) (pointers : List Pointer) 
   pub items : row_items level new pointers ≡ row_items level old pointers
   pub reach : row_reach level new pointers ≡ row_reach level old pointers
   pub leaves : row_leaves level new pointers ≡ row_leaves level old pointers
+  pub ahead : (first last : Key) → row_ahead first last level new pointers ≡ row_ahead first last level old pointers
+  pub sealed : (fsid : List ℕ) (owner : ℕ) → IsSealedRow fsid owner level old pointers → IsSealedRow fsid owner level new pointers
   pub children : All (IsChildOf level old) pointers → All (IsChildOf level new) pointers
 
 child_alike : (level : ℕ) (old new : Table) (pointer : Pointer) → AreAlike old new (reach_below level old pointer.at) → IsChildOf level old pointer → IsChildOf level new pointer
@@ -36,7 +42,7 @@ child_alike level old new pointer h child =
     (below.shape false child.0, subst (λ (l : List Item). first_key l ≡ Some pointer.key) (sym below.items) child.1)
 
 pub row_alike : (level : ℕ) (old new : Table) (pointers : List Pointer) → AreAlike old new (row_reach level old pointers) → IsAlikeRow level old new pointers
-row_alike level old new [] h = record { items = refl; reach = refl; leaves = refl; children = λ all. All-nil (IsChildOf level new) }
+row_alike level old new [] h = record { items = refl; reach = refl; leaves = refl; ahead = λ first last. refl; sealed = λ fsid owner all. row_sealed_alike fsid owner level old new [] h all; children = λ all. All-nil (IsChildOf level new) }
 row_alike level old new (p ∷ pointers) h =
     let P : ℕ → Type 0 = λ (place : ℕ). block_at new place ≡ block_at old place in
     let near = reach_below level old p.at in
@@ -50,6 +56,8 @@ row_alike level old new (p ∷ pointers) h =
       items = ap (λ (l : List Item). l ++ row_items level new pointers) below.items ∙ ap (λ (l : List Item). items_below level old p.at ++ l) others.items;
       reach = ap (λ (l : List ℕ). l ++ row_reach level new pointers) below.reach ∙ ap (λ (l : List ℕ). near ++ l) others.reach;
       leaves = omega (arith, sum_by-cons f p pointers, sum_by-cons g p pointers, (counted_alike level old new p.at here).leaves, others.leaves);
+      ahead = λ first last. row_ahead_alike first last level old new (p ∷ pointers) h;
+      sealed = λ fsid owner all. row_sealed_alike fsid owner level old new (p ∷ pointers) h all;
       children = λ all. All-cons (IsChildOf level new) p pointers (child_alike level old new p here (All-head (IsChildOf level old) p pointers all)) (others.children (All-tail (IsChildOf level old) p pointers all));
     }
 

@@ -1,5 +1,5 @@
 -- A child of a node is changed, and then the node's pointers are.
-use Rattle.std.proofs.Common.{◌≡◌, ◌≢◌, ◌≤◌, ◌+◌, ℕ, suc, true, List, [], ◌∷◌, ◌++◌, refl, ap, ◌∙◌, sym, subst, Option, Some, IsSome, arith}
+use Rattle.std.proofs.Common.{◌≡◌, ◌≢◌, ◌≤◌, ◌+◌, ℕ, suc, true, List, [], ◌∷◌, ◌++◌, length, refl, ap, ◌∙◌, sym, subst, Option, Some, IsSome, arith}
 use Rattle.std.specs.Prelude.{All}
 use Rattle.std.specs.List.{flat_map, sum_by}
 use Rattle.std.proofs.lemmas.List.Elements.{All-head, All-tail, All-same, All-weaker}
@@ -7,13 +7,15 @@ use Rattle.blk_base.specs.declared.key.Key.{Key}
 use Rattle.blk_base.specs.Leaf.{Item, Pointer}
 use Rattle.block_table.specs.declared.state.SlotState.TheVariants.{Free, LetGo}
 use Rattle.block_table.specs.Table.{Table}
-use Rattle.block_table.specs.TreeIn.{IsTaken, ItemsRise, NoneTwice, block_at, first_key}
+use Rattle.block_table.specs.TreeIn.{IsSealedSubtree, IsTaken, ItemsRise, NoneTwice, block_at, first_key}
 use Rattle.tree_range.specs.Shape.{AreAlike, items_below, node_pointers, reach_below}
 use Rattle.tree_range.specs.Between.{AreAbove, AreBelow, data_under}
 use Rattle.tree_range.specs.Part.{times_in}
 use Rattle.tree_range.specs.Path.{IsChildPlace}
 use Rattle.tree_range.proofs.Rise.{All-left, All-right, first_append, rise_left, rise_right}
 use Rattle.tree_frame.specs.Frame.{AreCurrent, IsEdit, leaves_below, without_item}
+use Rattle.tree_delete.specs.Seals.{IsSealedRow, want_of}
+use Rattle.tree_delete.specs.Ahead.{IsBetween, TakesAhead, nodes_ahead, row_ahead}
 use Rattle.tree_delete.specs.Rows.{HasItemBelow, IsChildOf, row_items, row_leaves, row_reach}
 use Rattle.tree_frame.proofs.EditLaws.{edits_join}
 use Rattle.tree_frame.proofs.Members.{in_nothing}
@@ -94,6 +96,9 @@ pub record IsChildDone (level : ℕ) (old new : Table) (key : Key) (pointer : Po
   pub once : NoneTwice (row_reach level new made)
   pub items : row_items level new made ≡ without_item key (items_below level old pointer.at)
   pub leaves : row_leaves level new made ≤ leaves_below level old pointer.at
+  pub one : length made ≤ 1
+  pub sealed : (fsid : List ℕ) (owner : ℕ) → IsSealedSubtree level old (want_of fsid owner level pointer) → IsSealedRow fsid owner level new made
+  pub ahead : (first last : Key) → IsBetween first last key → TakesAhead old new (nodes_ahead first last level old pointer.at + length made) (row_ahead first last level new made + 1)
 
 -- the row of a node's pointers then, where the node is as it was
 pub record IsRowDone (level : ℕ) (old new : Table) (at : ℕ) (key : Key) (row : List Pointer) : Type 0 where

@@ -2,6 +2,7 @@
 use Rattle.std.proofs.Common.{◌≡◌, ◌≤◌, ◌<◌, ◌+◌, ◌*◌, ℕ, suc, List, [], ◌∷◌, ◌++◌, length, take, drop, ap, ◌∙◌, sym, subst, Some, ◌⊎◌, arith, inl, inr, append_assoc}
 use Rattle.std.specs.Prelude.{All}
 use Rattle.std.proofs.lemmas.List.{length-append}
+use Rattle.std.proofs.lemmas.List.Sums.{sum_by-cons}
 use Rattle.std.proofs.lemmas.List.Elements.{All-nil, All-cons, All-head, All-tail, All-weaker}
 use Rattle.blk_base.specs.declared.key.Key.{Key}
 use Rattle.blk_base.specs.Address.{IsAllowed}
@@ -16,15 +17,18 @@ use Rattle.tree_range.proofs.Local.{node_pointers_alike}
 use Rattle.tree_range.proofs.Rise.{All-left, All-right}
 use Rattle.tree_blocks.specs.Steps.{IsDirtyNode, node_at}
 use Rattle.tree_frame.specs.Frame.{IsEdit, TakesAtMost}
+use Rattle.tree_delete.specs.Seals.{IsSealedRow}
+use Rattle.tree_delete.specs.Ahead.{IsBetween, TakesAhead, copies_of, nodes_ahead, row_ahead}
 use Rattle.tree_delete.specs.Rows.{IsChildOf, IsLessNode, row_reach}
 use Rattle.tree_delete.specs.Steps.{HasPair, IsRepaired}
 use Rattle.tree_frame.proofs.EditLaws.{edits_join}
+use Rattle.tree_delete.proofs.Ahead.{dirty_ahead, node_ahead, takes_one}
 use Rattle.tree_delete.proofs.Blocks.{node_same}
 use Rattle.tree_delete.proofs.Cuts.{at_within, cut_at, cut_same, length_cut, length_at}
 use Rattle.tree_delete.proofs.Edits.{IsWhole, takes_join, takes_more}
 use Rattle.tree_delete.proofs.Items.{rise_without}
-use Rattle.tree_delete.proofs.Nodes.{IsKid, IsKidPair, has_pair, kid_alike, kid_of, node_even}
-use Rattle.tree_delete.proofs.Deleting.{IsTurn, less_child, less_kid, less_node, turned}
+use Rattle.tree_delete.proofs.Nodes.{IsKid, IsKidPair, has_pair, kid_alike, kid_of, made_count, node_even}
+use Rattle.tree_delete.proofs.Deleting.{IsTurn, less_child, less_kid, less_node, turn_ahead, turn_sealed_there, turned}
 use Rattle.tree_delete.proofs.Rows.{row_one}
 use Rattle.tree_delete.proofs.Steps.{IsBeside, IsNodeDone, beside}
 
@@ -139,19 +143,28 @@ module _ (level : ℕ) (table : Table) (at : ℕ) (lefts : List Pointer) (thin :
 
 -- the whole step
 pub repaired : (level taken : ℕ) (old mid table new : Table) (at result : ℕ) (key : Key) (lefts : List Pointer) (thin : Pointer) (rights : List Pointer) → IsNodeDone (suc level) old mid table at result key (lefts ++ thin ∷ rights) → IsThin level table result lefts thin rights → length (node_pointers old at) ≡ length (node_pointers table result)
-    → IsRepaired table new result (length lefts) → TakesAtMost old table taken → taken + 1 ≤ 2 * (suc level) + 2 → IsLessNode (suc level) old new at result key
-repaired level taken old mid table new at result key lefts thin rights done h count r blocks few =
+    → IsRepaired table new result (length lefts) → TakesAtMost old table taken → taken + 1 ≤ 2 * (suc level) + 2 → ((first last : Key) → IsBetween first last key → TakesAhead old table (nodes_ahead first last (suc (suc level)) old at) (nodes_ahead first last (suc (suc level)) table result + 1)) → ((fsid : List ℕ) (owner : ℕ) → IsSealedRow fsid owner (suc level) old (node_pointers old at) → IsSealedRow fsid owner (suc level) table (node_pointers table result)) → IsLessNode (suc level) old new at result key
+repaired level taken old mid table new at result key lefts thin rights done h count r blocks few ahead sealed =
     let kids = repaired_kids level table result lefts thin rights h new r in
+    let takes = r.even.blocks in
+    let two = r.even.few in
+    let long = made_count level table new result r.left r.pair kids r.even in
     let even = node_even level table new result r.left r.pair kids r.even in
     record {
       shape = even.over;
       dirty = r.even.node.dirty;
       count = omega (arith, count, even.count);
+      fewer = omega (arith, count, long, two);
       items = even.items ∙ done.items;
       once = even.whole.once;
       edit = edits_join old table new (reach_below (suc (suc level)) old at) (reach_below (suc (suc level)) table result) (reach_below (suc (suc level)) new result) done.edit even.edit;
-      blocks = takes_more old new (taken + 1) (2 * (suc level) + 2) few (takes_join old table new taken 1 blocks r.even.blocks);
+      blocks = takes_more old new (taken + 1) (2 * (suc level) + 2) few (takes_join old table new taken 1 blocks (record { spare = omega (arith, takes.spare, two); free = omega (arith, takes.free, two) }));
       leaves = omega (arith, even.leaves, done.leaves);
+      sealed = λ fsid owner was. even.sealed fsid owner (sealed fsid owner was);
+      ahead = λ first last between.
+          let before = ahead first last between in
+          let is = even.ahead first last in
+          record { spare = omega (arith, before.spare, is, takes.spare, count, long); free = omega (arith, before.free, is, takes.free, count, long) };
     }
 
 -- ---- the node as it stands when its child was changed
@@ -237,13 +250,31 @@ module _ (level : ℕ) (old mid new : Table) (at result : ℕ) (key : Key) (left
   pub changed_least : 2 ≤ length (node_at new result)
   changed_least = omega (arith, h.turn.below.least, changed_count, ap (λ (l : List Pointer). length l) (node_same new result))
 
+  -- where it is left with too few, the node took what is no longer ahead
+  changed_ahead : length (node_pointers new q.at) ≤ 29 → TakesAtMost mid new (copies_of (block_at mid at).state) → (first last : Key) → IsBetween first last key → TakesAhead old new (nodes_ahead first last (suc (suc level)) old at) (nodes_ahead first last (suc (suc level)) new result + 1)
+  changed_ahead few two first last between =
+      let moved = turn_ahead (suc level) old mid at key lefts p rights (q ∷ []) h.turn first last in
+      let was = node_ahead first last key (suc level) old at h.turn.below between in
+      let own = ap (λ slot. copies_of slot.state) beside_it.same in
+      let is = dirty_ahead first last (suc level) new result h.node.dirty in
+      let row_is = ap (row_ahead first last (suc level) new) (node_same new result ∙ h.pointers) in
+      let same = changed.row_alike.ahead first last in
+      let made = sum_by-cons (λ (r : Pointer). nodes_ahead first last (suc level) mid r.at) q [] in
+      let child = h.less.ahead first last between in
+      let least : 30 ≤ length (node_pointers old p.at) = h.turn.way.child.0.2 in
+      let left = ap (λ (l : List Pointer). length l) kid_pointers in
+      record {
+        spare = omega (arith, moved, was, own, is, row_is, same, made, child.spare, two.spare, few, least, left);
+        free = omega (arith, moved, was, own, is, row_is, same, made, child.free, two.free, few, least, left);
+      }
+
   -- the child has enough pointers
-  pub changed_full : (taken : ℕ) → TakesAtMost old mid taken → TakesAtMost mid new 1 → taken + 1 ≤ 2 * (suc level) + 2 → 30 ≤ length (node_pointers new q.at) → IsLessNode (suc level) old new at result key
+  pub changed_full : (taken : ℕ) → TakesAtMost old mid taken → TakesAtMost mid new (copies_of (block_at mid at).state) → taken + 1 ≤ 2 * (suc level) + 2 → 30 ≤ length (node_pointers new q.at) → IsLessNode (suc level) old new at result key
   changed_full taken one two few full =
       let full_mid : 30 ≤ length (node_pointers mid q.at) = omega (arith, full, ap (λ (l : List Pointer). length l) kid_pointers) in
       less_node (suc level) old mid at key lefts p rights (q ∷ []) h.turn new result h.edit h.node h.allowed h.pointers taken one two few (less_child level old mid p q key h.less h.first full_mid)
 
   -- or it was repaired
-  pub changed_repaired : (last : Table) (taken : ℕ) → TakesAtMost old mid taken → TakesAtMost mid new 1 → taken + 2 ≤ 2 * (suc level) + 2 → length (node_pointers new q.at) ≤ 29 → IsRepaired new last result (length lefts) → IsLessNode (suc level) old last at result key
+  pub changed_repaired : (last : Table) (taken : ℕ) → TakesAtMost old mid taken → TakesAtMost mid new (copies_of (block_at mid at).state) → taken + 2 ≤ 2 * (suc level) + 2 → length (node_pointers new q.at) ≤ 29 → IsRepaired new last result (length lefts) → IsLessNode (suc level) old last at result key
   changed_repaired last taken one two most few r =
-      repaired level (taken + 1) old mid new last at result key lefts q rights changed (changed_thin few) changed_count r (takes_join old mid new taken 1 one two) (omega (arith, most))
+      repaired level (taken + 1) old mid new last at result key lefts q rights changed (changed_thin few) changed_count r (takes_join old mid new taken 1 one (takes_one mid new (block_at mid at).state two)) (omega (arith, most)) (changed_ahead few two) (turn_sealed_there (suc level) old mid at key lefts p rights (q ∷ []) h.turn new result h.edit h.node h.allowed h.pointers)

@@ -1,2 +1,4 @@
+pub mod Ahead
+pub mod Seals
 pub mod Rows
 pub mod Steps

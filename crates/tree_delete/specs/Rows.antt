@@ -7,10 +7,12 @@ use Rattle.blk_base.specs.Leaf.{Item, Pointer, node_body_of}
 use Rattle.block_table.specs.declared.state.SlotState.TheVariants.{Dirty}
 use Rattle.block_table.specs.declared.tree.Tree.{Tree}
 use Rattle.block_table.specs.Table.{Table}
-use Rattle.block_table.specs.TreeIn.{IsTaken, ItemsRise, NoneTwice, block_at, first_key}
+use Rattle.block_table.specs.TreeIn.{IsSealedTree, IsTaken, ItemsRise, NoneTwice, block_at, first_key}
 use Rattle.tree_range.specs.Shape.{IsSubtree, IsTree, items_below, node_pointers, reach_below, tree_items, tree_reach}
 use Rattle.tree_range.specs.Between.{data_under}
 use Rattle.tree_frame.specs.Frame.{AreCurrent, IsEdit, TakesAtMost, leaves_below, tree_leaves, without_item}
+use Rattle.tree_delete.specs.Seals.{IsSealedRow}
+use Rattle.tree_delete.specs.Ahead.{IsBetween, TakesAhead, nodes_ahead, tree_ahead}
 
 -- the items below these pointers, whose children stand on this level, the blocks, and how many leaves
 abbrev pub row_items : ℕ → Table → List Pointer → List Item
@@ -42,16 +44,20 @@ pub record HasItemBelow (level : ℕ) (table : Table) (at : ℕ) (key : Key) : T
   pub current : AreCurrent table (reach_below (suc level) table at)
 
 -- The node that stood at a byte address stands at another one without the item under a key, and has one pointer fewer at
--- most (own).
+-- most. Within a range it takes one block and buffer for each node that is no longer ahead, and one more where it
+-- keeps its pointers (own).
 pub record IsLessNode (level : ℕ) (old new : Table) (at result : ℕ) (key : Key) : Type 0 where
   pub shape : IsNodeOver level new result
   pub dirty : (block_at new result).state ≡ Dirty
   pub count : length (node_pointers old at) ≤ length (node_pointers new result) + 1
+  pub fewer : length (node_pointers new result) ≤ length (node_pointers old at)
   pub items : items_below (suc level) new result ≡ without_item key (items_below (suc level) old at)
   pub once : NoneTwice (reach_below (suc level) new result)
   pub edit : IsEdit old new (reach_below (suc level) old at) (reach_below (suc level) new result)
   pub blocks : TakesAtMost old new (2 * level + 2)
+  pub ahead : (first last : Key) → IsBetween first last key → TakesAhead old new (nodes_ahead first last (suc level) old at + length (node_pointers new result)) (nodes_ahead first last (suc level) new result + length (node_pointers old at))
   pub leaves : leaves_below (suc level) new result ≤ leaves_below (suc level) old at
+  pub sealed : (fsid : List ℕ) (owner : ℕ) → IsSealedRow fsid owner level old (node_pointers old at) → IsSealedRow fsid owner level new (node_pointers new result)
 
 -- the byte address, where there is one
 abbrev pub kept_of : Option Addr → List ℕ
@@ -66,4 +72,6 @@ pub record IsLessTree (old new : Table) (tree result : Tree) (key : Key) : Type 
   pub edit : IsEdit old new (tree_reach old tree) (tree_reach new result)
   pub current : AreCurrent new (tree_reach new result)
   pub blocks : TakesAtMost old new 17
+  pub ahead : (first last : Key) → IsBetween first last key → TakesAhead old new (tree_ahead first last old tree) (tree_ahead first last new result)
   pub leaves : tree_leaves new result ≤ tree_leaves old tree
+  pub sealed : (fsid : List ℕ) (was : ℕ) → IsSealedTree old tree fsid was → (now : ℕ) × IsSealedTree new result fsid now

@@ -6,7 +6,7 @@ use Rattle.blk_base.specs.Keys.{KeyBelow, keys_rise}
 use Rattle.blk_base.specs.Leaf.{Pointer}
 use Rattle.leaf_view.specs.Search.{pointer_keys}
 use Rattle.block_table.specs.declared.state.SlotState.TheVariants.{Free, Dirty, LetGo}
-use Rattle.block_table.specs.Table.{Table}
+use Rattle.block_table.specs.Table.{Table, free_blocks}
 use Rattle.block_table.specs.TreeIn.{NoneTwice, block_at}
 use Rattle.tree_range.specs.Path.{key_behind}
 use Rattle.tree_blocks.specs.Steps.{IsDirtyNode, IsNodeAt, node_at}
@@ -32,6 +32,11 @@ pub record IsPair (table : Table) (left right : ℕ) : Type 0 where
   pub least : 59 ≤ length (node_at table left) + length (node_at table right)
   pub most : length (node_at table left) + length (node_at table right) ≤ 241
 
+-- Two nodes that became so many took a block and buffer at most, and none where they are joined (own).
+pub record TakesForMade (old new : Table) (made : ℕ) : Type 0 where
+  pub spare : old.spare + 1 ≤ new.spare + made
+  pub free : free_blocks old + 1 ≤ free_blocks new + made
+
 -- two nodes side by side have become these, one or two, with the same pointers and 30 at least in each (own)
 pub record IsShared (old new : Table) (left right : ℕ) (made : List ℕ) : Type 0 where
   pub lists : flat_map (node_at new) made ≡ node_at old left ++ node_at old right
@@ -40,7 +45,7 @@ pub record IsShared (old new : Table) (left right : ℕ) (made : List ℕ) : Typ
   pub allowed : All (λ at. IsAllowed (length new.slots) at) made
   pub once : NoneTwice made
   pub edit : IsEdit old new (left ∷ right ∷ []) made
-  pub blocks : TakesAtMost old new 1
+  pub blocks : TakesForMade old new (length made)
 
 -- Two children of a node that is being edited, side by side from a place on: the first key of the left one is its
 -- pointer's, and the keys in both are below the first keys of the children behind them (own).
@@ -74,9 +79,10 @@ pub record IsEven (old new : Table) (at place : ℕ) (pair : HasPair old at plac
   pub allowed : All (λ (pointer : Pointer). IsAllowed (length new.slots) pointer.at) made
   pub firsts : All (λ (pointer : Pointer). key_behind (node_at new pointer.at) None ≡ Some pointer.key) made
   pub some : 1 ≤ length made
+  pub few : length made ≤ 2
   pub once : NoneTwice (at ∷ ats_of made)
   pub edit : IsEdit old new (at ∷ pair.left.at ∷ pair.right.at ∷ []) (at ∷ ats_of made)
-  pub blocks : TakesAtMost old new 1
+  pub blocks : TakesForMade old new (length made)
 
 -- a child of the node at a place and one beside it share their pointers (own)
 pub record IsRepaired (old new : Table) (at place : ℕ) : Type 0 where

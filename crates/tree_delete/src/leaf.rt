@@ -2,7 +2,7 @@ ghost use Rattle.std.specs.Prelude.{◌≡◌, ◌≢◌, ◌≤◌, ◌+◌, �
 ghost use Rattle.std.specs.List.{flat_map};
 ghost use Rattle.block_table.specs.declared.state.SlotState.{SlotState};
 ghost use Rattle.block_table.specs.Table.{free_blocks, state_at};
-ghost use Rattle.block_table.specs.TreeIn.{ItemsRise};
+ghost use Rattle.block_table.specs.TreeIn.{ItemsRise, block_at};
 ghost use Rattle.tree_range.specs.Shape.{IsSubtree, leaf_items};
 ghost use Rattle.tree_range.specs.Between.{data_under};
 ghost use Rattle.tree_frame.specs.Frame.{IsEdit, TakesAtMost, without_item};
@@ -23,6 +23,7 @@ pub(crate) fn delete_in_leaf(table: &mut BlockTable, at: Addr, key: &Key) -> Add
     ensures leaf { IsSubtree 0 table.new true result.0 }
     ensures items { leaf_items table.new result.0 ≡ without_item key.now (leaf_items table.old at.0) }
     ensures count { length (leaf_items table.new result.0) + 1 ≡ length (leaf_items table.old at.0) }
+    ensures dirty { state_at table.new result ≡ SlotState.Dirty }
     ensures edit { IsEdit table.old table.new (at.0 ∷ []) (result.0 ∷ []) }
     ensures blocks { TakesAtMost table.old table.new 1 }
 {
@@ -46,8 +47,9 @@ pub(crate) fn shrink_leaf(table: &mut BlockTable, at: Addr, key: &Key) -> Option
     requires free { 1 ≤ free_blocks table.old }
     ensures leaf { All (IsSubtree 0 table.new false) (kept_of result) }
     ensures items { flat_map (leaf_items table.new) (kept_of result) ≡ without_item key.now (leaf_items table.old at.0) }
+    ensures dirty { All (λ kept. (block_at table.new kept).state ≡ SlotState.Dirty) (kept_of result) }
     ensures edit { IsEdit table.old table.new (at.0 ∷ []) (kept_of result) }
-    ensures blocks { TakesAtMost table.old table.new 1 }
+    ensures blocks { TakesAtMost table.old table.new (length (kept_of result)) }
 {
     if leaf_len(table, at) == 1 {
         table.let_go(at);

@@ -1,10 +1,11 @@
 ghost use Rattle.std.specs.Prelude.{◌≡◌, ◌≤◌, ◌<◌, ◌∷◌, [], length, insert, remove};
 ghost use Rattle.blk_base.specs.Address.{IsAllowed};
 ghost use Rattle.leaf_view.specs.Search.{pointer_keys, IsPlace};
-ghost use Rattle.block_table.specs.Table.{free_blocks};
+ghost use Rattle.block_table.specs.Table.{free_blocks, state_at};
 ghost use Rattle.tree_range.specs.Path.{IsChildPlace};
 ghost use Rattle.tree_blocks.specs.Steps.{IsDirtyNode, node_at};
 ghost use Rattle.tree_frame.specs.Frame.{IsEdit, TakesAtMost};
+ghost use Rattle.tree_delete.specs.Ahead.{copies_of};
 ghost use Rattle.tree_delete.specs.Steps.{IsCurrentNode};
 
 use blk_base::{Addr, Key};
@@ -42,7 +43,7 @@ pub(crate) fn drop_child(table: &mut BlockTable, at: Addr, place: usize) -> Addr
     ensures node { IsDirtyNode table.new result.0 }
     ensures allowed { IsAllowed (length table.new.slots) result.0 }
     ensures edit { IsEdit table.old table.new (at.0 ∷ []) (result.0 ∷ []) }
-    ensures blocks { TakesAtMost table.old table.new 1 }
+    ensures blocks { TakesAtMost table.old table.new (copies_of (state_at table.old at)) }
 {
     let copy = own(table, at);
     node_remove(table, copy, place);
@@ -67,7 +68,7 @@ pub(crate) fn change_child(
     ensures node { IsDirtyNode table.new result.0 }
     ensures allowed { IsAllowed (length table.new.slots) result.0 }
     ensures edit { IsEdit table.old table.new (at.0 ∷ []) (result.0 ∷ []) }
-    ensures blocks { TakesAtMost table.old table.new 1 }
+    ensures blocks { TakesAtMost table.old table.new (copies_of (state_at table.old at)) }
 {
     let copy = drop_child(table, at, place);
     node_insert(table, copy, place, first, child, 0);

@@ -2,7 +2,7 @@ use Rattle.std.proofs.Common.{◌≡◌, ◌≢◌, ◌++◌, ℕ, List, [], ◌
 use Rattle.std.specs.Prelude.{insert, remove}
 use Rattle.std.proofs.lemmas.List.Elements.{All-cons, All-head, All-nil}
 use Rattle.blk_base.specs.Leaf.{Item, Pointer}
-use Rattle.block_table.specs.declared.state.SlotState.TheVariants.{LetGo}
+use Rattle.block_table.specs.declared.state.SlotState.TheVariants.{Dirty, LetGo}
 use Rattle.block_table.specs.TreeIn.{block_at, first_key}
 use Rattle.leaf_view.specs.Search.{IsPlace, keys_of, pointer_keys}
 use Rattle.tree_blocks.specs.Steps.{node_at}
@@ -49,7 +49,7 @@ drop_child-requires-clause-node c =
     let place = c.child_place-place.result in
     let aim = aimed 0 old at key place c.node_child.result.0.0 c.node_child.result.1 c.requires.below c.child_place-place.ensures c.node_child.ensures in
     let p : Pointer = record { key = aim.first; at = c.node_child.result.0.0; generation = aim.generation } in
-    let turn : IsTurn 0 old mid at key aim.lefts p aim.rights [] = record { below = c.requires.below; way = aim.way; done = leaf_gone old mid at key p c.in-None.ensures.edit c.in-None.ensures.items } in
+    let turn : IsTurn 0 old mid at key aim.lefts p aim.rights [] = record { below = c.requires.below; way = aim.way; done = leaf_gone old mid at key p c.in-None.ensures.edit c.in-None.ensures.items c.in-None.ensures.blocks } in
     turn_node 0 old mid at key aim.lefts p aim.rights [] turn
 
 pub drop_child-requires-clause-within : goal.drop_child-requires-clause-within
@@ -61,7 +61,7 @@ drop_child-requires-clause-within c =
     let place = c.child_place-place.result in
     let aim = aimed 0 old at key place c.node_child.result.0.0 c.node_child.result.1 c.requires.below c.child_place-place.ensures c.node_child.ensures in
     let p : Pointer = record { key = aim.first; at = c.node_child.result.0.0; generation = aim.generation } in
-    let turn : IsTurn 0 old mid at key aim.lefts p aim.rights [] = record { below = c.requires.below; way = aim.way; done = leaf_gone old mid at key p c.in-None.ensures.edit c.in-None.ensures.items } in
+    let turn : IsTurn 0 old mid at key aim.lefts p aim.rights [] = record { below = c.requires.below; way = aim.way; done = leaf_gone old mid at key p c.in-None.ensures.edit c.in-None.ensures.items c.in-None.ensures.blocks } in
     omega (arith, turn_inside 0 old mid at key aim.lefts p aim.rights [] turn, aim.long)
 
 pub drop_child-requires-clause-least : goal.drop_child-requires-clause-least
@@ -73,7 +73,7 @@ drop_child-requires-clause-least c =
     let place = c.child_place-place.result in
     let aim = aimed 0 old at key place c.node_child.result.0.0 c.node_child.result.1 c.requires.below c.child_place-place.ensures c.node_child.ensures in
     let p : Pointer = record { key = aim.first; at = c.node_child.result.0.0; generation = aim.generation } in
-    let turn : IsTurn 0 old mid at key aim.lefts p aim.rights [] = record { below = c.requires.below; way = aim.way; done = leaf_gone old mid at key p c.in-None.ensures.edit c.in-None.ensures.items } in
+    let turn : IsTurn 0 old mid at key aim.lefts p aim.rights [] = record { below = c.requires.below; way = aim.way; done = leaf_gone old mid at key p c.in-None.ensures.edit c.in-None.ensures.items c.in-None.ensures.blocks } in
     turn_least 0 old mid at key aim.lefts p aim.rights [] turn
 
 pub change_child-requires-clause-node : goal.change_child-requires-clause-node
@@ -86,7 +86,7 @@ change_child-requires-clause-node c =
     let aim = aimed 0 old at key place c.node_child.result.0.0 c.node_child.result.1 c.requires.below c.child_place-place.ensures c.node_child.ensures in
     let p : Pointer = record { key = aim.first; at = c.node_child.result.0.0; generation = aim.generation } in
     let q : Pointer = record { key = c.leaf_key-first.result; at = c.in-Some.leaf.0; generation = 0 } in
-    let turn : IsTurn 0 old mid at key aim.lefts p aim.rights (q ∷ []) = record { below = c.requires.below; way = aim.way; done = leaf_less old mid key p q c.in-Some.ensures.edit c.in-Some.ensures.items } in
+    let turn : IsTurn 0 old mid at key aim.lefts p aim.rights (q ∷ []) = record { below = c.requires.below; way = aim.way; done = leaf_less old mid key p q c.in-Some.ensures.edit c.in-Some.ensures.items c.in-Some.ensures.blocks (All-head (λ (a : ℕ). (block_at mid a).state ≡ Dirty) q.at [] c.in-Some.ensures.dirty) } in
     turn_node 0 old mid at key aim.lefts p aim.rights (q ∷ []) turn
 
 pub change_child-requires-clause-within : goal.change_child-requires-clause-within
@@ -99,7 +99,7 @@ change_child-requires-clause-within c =
     let aim = aimed 0 old at key place c.node_child.result.0.0 c.node_child.result.1 c.requires.below c.child_place-place.ensures c.node_child.ensures in
     let p : Pointer = record { key = aim.first; at = c.node_child.result.0.0; generation = aim.generation } in
     let q : Pointer = record { key = c.leaf_key-first.result; at = c.in-Some.leaf.0; generation = 0 } in
-    let turn : IsTurn 0 old mid at key aim.lefts p aim.rights (q ∷ []) = record { below = c.requires.below; way = aim.way; done = leaf_less old mid key p q c.in-Some.ensures.edit c.in-Some.ensures.items } in
+    let turn : IsTurn 0 old mid at key aim.lefts p aim.rights (q ∷ []) = record { below = c.requires.below; way = aim.way; done = leaf_less old mid key p q c.in-Some.ensures.edit c.in-Some.ensures.items c.in-Some.ensures.blocks (All-head (λ (a : ℕ). (block_at mid a).state ≡ Dirty) q.at [] c.in-Some.ensures.dirty) } in
     omega (arith, turn_inside 0 old mid at key aim.lefts p aim.rights (q ∷ []) turn, aim.long)
 
 pub change_child-requires-clause-least : goal.change_child-requires-clause-least
@@ -112,7 +112,7 @@ change_child-requires-clause-least c =
     let aim = aimed 0 old at key place c.node_child.result.0.0 c.node_child.result.1 c.requires.below c.child_place-place.ensures c.node_child.ensures in
     let p : Pointer = record { key = aim.first; at = c.node_child.result.0.0; generation = aim.generation } in
     let q : Pointer = record { key = c.leaf_key-first.result; at = c.in-Some.leaf.0; generation = 0 } in
-    let turn : IsTurn 0 old mid at key aim.lefts p aim.rights (q ∷ []) = record { below = c.requires.below; way = aim.way; done = leaf_less old mid key p q c.in-Some.ensures.edit c.in-Some.ensures.items } in
+    let turn : IsTurn 0 old mid at key aim.lefts p aim.rights (q ∷ []) = record { below = c.requires.below; way = aim.way; done = leaf_less old mid key p q c.in-Some.ensures.edit c.in-Some.ensures.items c.in-Some.ensures.blocks (All-head (λ (a : ℕ). (block_at mid a).state ≡ Dirty) q.at [] c.in-Some.ensures.dirty) } in
     turn_least 0 old mid at key aim.lefts p aim.rights (q ∷ []) turn
 
 pub leaf_key-first-requires-clause-taken : goal.leaf_key-first-requires-clause-taken
@@ -140,7 +140,7 @@ change_child-requires-clause-order c =
     let aim = aimed 0 old at key place c.node_child.result.0.0 c.node_child.result.1 c.requires.below c.child_place-place.ensures c.node_child.ensures in
     let p : Pointer = record { key = aim.first; at = c.node_child.result.0.0; generation = aim.generation } in
     let q : Pointer = record { key = c.leaf_key-first.result; at = c.in-Some.leaf.0; generation = 0 } in
-    let turn : IsTurn 0 old mid at key aim.lefts p aim.rights (q ∷ []) = record { below = c.requires.below; way = aim.way; done = leaf_less old mid key p q c.in-Some.ensures.edit c.in-Some.ensures.items } in
+    let turn : IsTurn 0 old mid at key aim.lefts p aim.rights (q ∷ []) = record { below = c.requires.below; way = aim.way; done = leaf_less old mid key p q c.in-Some.ensures.edit c.in-Some.ensures.items c.in-Some.ensures.blocks (All-head (λ (a : ℕ). (block_at mid a).state ≡ Dirty) q.at [] c.in-Some.ensures.dirty) } in
     let first : first_key (leaf_items mid q.at) ≡ Some q.key = first_read (leaf_items mid q.at) q.key (ap (λ (l : List Item). slice_get (keys_of l) 0) (leaf_same mid q.at) ∙ c.leaf_key-first.ensures) in
     subst (λ (n : ℕ). IsPlace (pointer_keys (remove (node_at mid at) n)) q.key n) aim.long (turn_order 0 old mid at key aim.lefts p aim.rights q turn first)
 
@@ -153,9 +153,9 @@ returns-in-None c =
     let place = c.child_place-place.result in
     let aim = aimed 0 old at key place c.node_child.result.0.0 c.node_child.result.1 c.requires.below c.child_place-place.ensures c.node_child.ensures in
     let p : Pointer = record { key = aim.first; at = c.node_child.result.0.0; generation = aim.generation } in
-    let turn : IsTurn 0 old mid at key aim.lefts p aim.rights [] = record { below = c.requires.below; way = aim.way; done = leaf_gone old mid at key p c.in-None.ensures.edit c.in-None.ensures.items } in
+    let turn : IsTurn 0 old mid at key aim.lefts p aim.rights [] = record { below = c.requires.below; way = aim.way; done = leaf_gone old mid at key p c.in-None.ensures.edit c.in-None.ensures.items c.in-None.ensures.blocks } in
     let pointers : node_at c.drop_child.new.table c.drop_child.result.0 ≡ aim.lefts ++ aim.rights = c.drop_child.ensures.pointers ∙ ap (λ (n : ℕ). remove (node_at mid at) n) (sym aim.long) ∙ turn_removed 0 old mid at key aim.lefts p aim.rights [] turn in
-    less_node 0 old mid at key aim.lefts p aim.rights [] turn c.drop_child.new.table c.drop_child.result.0 c.drop_child.ensures.edit c.drop_child.ensures.node c.drop_child.ensures.allowed pointers 1 c.in-None.ensures.blocks c.drop_child.ensures.blocks (omega arith) (All-nil (IsChildOf 0 mid))
+    less_node 0 old mid at key aim.lefts p aim.rights [] turn c.drop_child.new.table c.drop_child.result.0 c.drop_child.ensures.edit c.drop_child.ensures.node c.drop_child.ensures.allowed pointers 0 c.in-None.ensures.blocks c.drop_child.ensures.blocks (omega arith) (All-nil (IsChildOf 0 mid))
 
 pub returns-in-Some : goal.returns-in-Some
 returns-in-Some c =
@@ -167,7 +167,7 @@ returns-in-Some c =
     let aim = aimed 0 old at key place c.node_child.result.0.0 c.node_child.result.1 c.requires.below c.child_place-place.ensures c.node_child.ensures in
     let p : Pointer = record { key = aim.first; at = c.node_child.result.0.0; generation = aim.generation } in
     let q : Pointer = record { key = c.leaf_key-first.result; at = c.in-Some.leaf.0; generation = 0 } in
-    let turn : IsTurn 0 old mid at key aim.lefts p aim.rights (q ∷ []) = record { below = c.requires.below; way = aim.way; done = leaf_less old mid key p q c.in-Some.ensures.edit c.in-Some.ensures.items } in
+    let turn : IsTurn 0 old mid at key aim.lefts p aim.rights (q ∷ []) = record { below = c.requires.below; way = aim.way; done = leaf_less old mid key p q c.in-Some.ensures.edit c.in-Some.ensures.items c.in-Some.ensures.blocks (All-head (λ (a : ℕ). (block_at mid a).state ≡ Dirty) q.at [] c.in-Some.ensures.dirty) } in
     let first : first_key (leaf_items mid q.at) ≡ Some q.key = first_read (leaf_items mid q.at) q.key (ap (λ (l : List Item). slice_get (keys_of l) 0) (leaf_same mid q.at) ∙ c.leaf_key-first.ensures) in
     let leaf = All-head (IsSubtree 0 c.shrink_leaf.new.table false) c.in-Some.leaf.0 [] c.in-Some.ensures.leaf in
     let pointers : node_at c.change_child.new.table c.change_child.result.0 ≡ aim.lefts ++ q ∷ aim.rights = c.change_child.ensures.pointers ∙ ap (λ (n : ℕ). insert (remove (node_at mid at) n) n q) (sym aim.long) ∙ turn_inserted 0 old mid at key aim.lefts p aim.rights (q ∷ []) turn q in

@@ -1,8 +1,7 @@
-use Rattle.std.proofs.Common.{ℕ, [], false, arith, sym, ap, ◌∙◌, length}
+use Rattle.std.proofs.Common.{ℕ, [], false, sym, ap, ◌∙◌, length}
 use Rattle.std.proofs.lemmas.List.Elements.{All-nil, All-cons}
 use Rattle.tree_range.specs.Shape.{IsSubtree, leaf_items}
 use Rattle.tree_delete.proofs.Blocks.{gone, leaf_same}
-use Rattle.tree_delete.proofs.Edits.{takes_more}
 use Rattle.tree_delete.proofs.Items.{without_only}
 use Rattle.tree_delete.proofs.Leaves.{leaf_body, not_only}
 use Rattle.tree_delete.proofs.leaf.shrink_leaf.Goals as goal
@@ -19,7 +18,7 @@ returns-then-leaf_len-eq1-clause-edit c = (gone c.args.table.now c.let_go.new.se
 
 pub returns-then-leaf_len-eq1-clause-blocks : goal.returns-then-leaf_len-eq1-clause-blocks
 returns-then-leaf_len-eq1-clause-blocks c =
-    takes_more c.args.table.now c.let_go.new.self 0 1 (omega arith) (gone c.args.table.now c.let_go.new.self c.args.at c.requires.leaf.0.allowed c.requires.leaf.0.taken c.let_go.ensures.dirty c.let_go.ensures.written).blocks
+    (gone c.args.table.now c.let_go.new.self c.args.at c.requires.leaf.0.allowed c.requires.leaf.0.taken c.let_go.ensures.dirty c.let_go.ensures.written).blocks
 
 pub returns-clause-leaf : goal.returns-clause-leaf
 returns-clause-leaf c =

@@ -1,4 +1,4 @@
-use Rattle.std.proofs.Common.{◌≡◌, ◌≢◌, ◌<◌, ◌*◌, ℕ}
+use Rattle.std.proofs.Common.{◌≢◌, ◌<◌, ◌*◌, ℕ}
 use Rattle.block_table.specs.declared.state.SlotState.TheVariants.{LetGo}
 use Rattle.block_table.specs.TreeIn.{block_at}
 use Rattle.tree_delete.proofs.tests.none_let_go.Given as goal

@@ -1,0 +1,71 @@
+-- Whether blocks pass their headers' checks, below a block, below each of some pointers, and below a node that is being edited.
+use Rattle.std.proofs.Common.{◌≡◌, ◌≢◌, ℕ, zero, suc, List, [], sym, subst, IsOk}
+use Rattle.std.specs.Prelude.{All, slice_index_or}
+use Rattle.std.specs.List.{flat_map}
+use Rattle.std.proofs.lemmas.List.Elements.{All-head, All-tail}
+use Rattle.blk_base.specs.declared.key.Want.{Want}
+use Rattle.blk_base.specs.Leaf.{Pointer, HeaderFits, IsNodeBody, node_body_of}
+use Rattle.block_table.specs.declared.state.SlotState.TheVariants.{Dirty}
+use Rattle.block_table.specs.declared.tree.Tree.{Tree}
+use Rattle.block_table.specs.Slot.{BlockSlot}
+use Rattle.block_table.specs.Table.{Table}
+use Rattle.block_table.specs.TreeIn.{IsSealedBlock, IsSealedSubtree, IsSealedTree, block_at, child_want}
+use Rattle.leaf_view.proofs.NodeLaws.{node_body_from, node_body_means}
+use Rattle.tree_range.specs.Shape.{AreAlike, node_pointers, reach_below}
+use Rattle.tree_range.proofs.Bodies.{node_body_is, node_pointers_are}
+use Rattle.tree_frame.proofs.Reading.{all_parts}
+use Rattle.cow_tree.specs.Below.{want_at}
+
+-- a pointer's block and those below it pass them by the pointer
+abbrev pub Sealed : ℕ → Table → Want → Pointer → Type 0
+Sealed level table want pointer = IsSealedSubtree level table (want_at want pointer.at pointer.generation)
+
+-- a node's children are read with one level less
+abbrev pub below_want : Want → ℕ → Want
+below_want want level = record want { level = level }
+
+-- ---- blocks that stay as they were
+
+-- the pointers of a node's body are those that the table shows
+pointers_shown : (table : Table) (at : ℕ) (pointers : List Pointer) → IsNodeBody (block_at table at).bytes pointers → node_pointers table at ≡ pointers
+pointers_shown table at pointers body =
+    node_pointers_are table at pointers (node_body_from (block_at table at).bytes pointers body)
+
+block_alike : (old new : Table) (want : Want) → block_at new want.at.0 ≡ block_at old want.at.0 → IsSealedBlock old want → IsSealedBlock new want
+block_alike old new want same h =
+    subst (λ (slot : BlockSlot). slot.state ≢ Dirty → HeaderFits want slot.bytes) (sym same) h
+
+pub sealed_alike : (level : ℕ) (old new : Table) (want : Want) → AreAlike old new (reach_below level old want.at.0) → IsSealedSubtree level old want → IsSealedSubtree level new want
+sealed_alike zero old new want alike h =
+    block_alike old new want (All-head (λ (place : ℕ). block_at new place ≡ block_at old place) want.at.0 [] alike) h
+sealed_alike (suc level) old new want alike h =
+    let P : ℕ → Type 0 = λ (place : ℕ). block_at new place ≡ block_at old place in
+    let g : Pointer → List ℕ = λ (pointer : Pointer). reach_below level old pointer.at in
+    let at = want.at.0 in
+    let here : block_at new at ≡ block_at old at = All-head P at (flat_map g (node_pointers old at)) alike in
+    let children : (pointers : List Pointer) → IsNodeBody (block_at new at).bytes pointers → All (λ (pointer : Pointer). IsSealedSubtree level new (child_want want pointer level)) pointers =
+    λ pointers body i d within.
+    let was : IsNodeBody (block_at old at).bytes pointers = subst (λ (slot : BlockSlot). IsNodeBody slot.bytes pointers) here body in
+    let parts : All (λ (pointer : Pointer). All P (g pointer)) pointers = all_parts P g pointers (subst (λ (l : List Pointer). All P (flat_map g l)) (pointers_shown old at pointers was) (All-tail P at (flat_map g (node_pointers old at)) alike)) in
+    sealed_alike level old new (child_want want (slice_index_or pointers i d) level) (parts i d within) (h.1 pointers was i d within) in
+    (block_alike old new want here h.0, children)
+
+-- ---- a node
+
+-- the children of a node pass them
+pub sealed_children : (level : ℕ) (table : Table) (want : Want) (at generation : ℕ) → IsOk (node_body_of (block_at table at).bytes) → IsSealedSubtree (suc level) table (want_at want at generation) → All (Sealed level table (below_want want level)) (node_pointers table at)
+sealed_children level table want at generation body h =
+    h.1 (node_pointers table at) (node_body_means (block_at table at).bytes (node_pointers table at) (node_body_is table at body))
+
+-- a node that is being edited has no header yet: its children have to pass them
+pub sealed_node : (level : ℕ) (table : Table) (want : Want) (at generation : ℕ) → (block_at table at).state ≡ Dirty → All (Sealed level table (below_want want level)) (node_pointers table at) → IsSealedSubtree (suc level) table (want_at want at generation)
+sealed_node level table want at generation dirty each =
+    (λ written. absurd (written dirty), λ pointers body. subst (All (Sealed level table (below_want want level))) (pointers_shown table at pointers body) each)
+
+-- ---- a root
+
+pub sealed_root : (level : ℕ) (table : Table) (tree : Tree) (fsid : List ℕ) (at generation owner : ℕ) → tree.level ≡ level → tree.owner ≡ owner → tree.root.0 ≡ at → IsSealedSubtree level table (record { fsid = fsid; at = record { 0 = at }; generation = generation; owner = owner; level = level }) → IsSealedTree table tree fsid generation
+sealed_root level table tree fsid at generation owner p q r h =
+    subst (λ (n : ℕ). IsSealedSubtree n table (record { fsid = fsid; at = tree.root; generation = generation; owner = tree.owner; level = n })) (sym p)
+    (subst (λ (o : ℕ). IsSealedSubtree level table (record { fsid = fsid; at = tree.root; generation = generation; owner = o; level = level })) (sym q)
+    (subst (λ (a : ℕ). IsSealedSubtree level table (record { fsid = fsid; at = record { 0 = a }; generation = generation; owner = owner; level = level })) (sym r) h))

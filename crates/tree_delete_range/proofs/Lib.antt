@@ -1,0 +1,4 @@
+mod Changes
+mod Few
+mod Gone
+mod Steps
