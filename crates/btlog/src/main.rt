@@ -30,14 +30,18 @@ IMAGE is a file with the image of a volume. Commands, and what they print:
     FSID is a uuid, as 00000000-0000-0000-0000-000000000001
     BLOCKS is 4096 to 65536, in blocks of 4096 bytes; SUBS is 1
     an image that isn't there is made
+  run                     runs a script on a volume   its answers, and done N
+    the script is read from standard input
   list                    shows what a volume has     its listing
-    the volume has to stand in one leaf
+For run and list the volume has to stand in one leaf.
 
 Other answers, and the exit status of each:
   0  the command was done
   1  usage    the words are no command
+  2  script   the script has a fault; its line and kind stand behind the word
   3  volume   the image has no volume in one leaf; what is wrong stands behind the word
-  4  disk     the image can't be opened or made, or the disk failed
+  4  disk     the image can't be opened or made, or failed while a volume was made or mounted
+  5  read     standard input failed, or has more than 16777216 bytes
   6           standard output failed
   7  memory   no memory
   8  range    FSID, BLOCKS or SUBS is out of its form or range, or the image is too small";

@@ -1,7 +1,7 @@
 //! The edge to the outside: where scripts come from, and where texts go.
 //!
 //! A source may tell what it has left to give, and a sink what it has taken. Each counts its faults. Those in memory
-//! tell both, and fail at the calls that they are told.
+//! tell both, and fail at the calls that they are told. `put` writes a whole text to any sink.
 #![tactic(auto)]
 
 mod calls;
@@ -11,8 +11,10 @@ mod sink;
 mod source;
 #[cfg(test)]
 mod tests;
+mod text;
 
 pub use memory_sink::{MemorySink, SINK_ROOM};
 pub use memory_source::MemorySource;
 pub use sink::{Sink, SinkFailed};
 pub use source::{Source, SourceFailed};
+pub use text::{put, put_all};

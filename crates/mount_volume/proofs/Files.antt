@@ -27,11 +27,11 @@ use Rattle.mount_volume.proofs.Parts.{drop_at}
 
 -- ---- where their blocks are
 
-place_of : (o : Option ℕ) (at : Addr) → option_map (λ (n : ℕ). record { 0 = n }) o ≡ Some at → o ≡ Some at.0
+pub place_of : (o : Option ℕ) (at : Addr) → option_map (λ (n : ℕ). record { 0 = n }) o ≡ Some at → o ≡ Some at.0
 place_of None at is = absurd cc
 place_of (Some n) at is = let e : Some (record { 0 = n }) ≡ Some at = is in ap (option_map (λ (a : Addr). a.0)) e
 
-read_of : (key : Key) (v : Option (List ℕ)) (n : ℕ) → option_and_then (λ bytes. address_of (extent_of key bytes)) v ≡ Some n → (bytes : List ℕ) × (v ≡ Some bytes) × (address_of (extent_of key bytes) ≡ Some n)
+pub read_of : (key : Key) (v : Option (List ℕ)) (n : ℕ) → option_and_then (λ bytes. address_of (extent_of key bytes)) v ≡ Some n → (bytes : List ℕ) × (v ≡ Some bytes) × (address_of (extent_of key bytes) ≡ Some n)
 read_of key None n is = absurd cc
 read_of key (Some bytes) n is = (bytes, refl, is)
 
@@ -54,7 +54,7 @@ module _ (items : List Item) (blocks count : ℕ) (first : AreFirstBlocks items)
 
 -- ---- one file after the other
 
-step_in : (blocks : Data) (files : List LeafFile) (place : ℕ) (d : LeafFile) (first old new : RunVolume) → place < length files → new ≡ lone (with_file blocks (get_or files place d) (run_of old))
+pub step_in : (blocks : Data) (files : List LeafFile) (place : ℕ) (d : LeafFile) (first old new : RunVolume) → place < length files → new ≡ lone (with_file blocks (get_or files place d) (run_of old))
     → with_files blocks (drop place files) (run_of old) ≡ with_files blocks files (run_of first) → with_files blocks (drop (place + 1) files) (run_of new) ≡ with_files blocks files (run_of first)
 step_in blocks files place d first old new is put rest =
     ap (λ v. with_files blocks (drop (place + 1) files) (run_of v)) put ∙ ap (with_files blocks (drop (place + 1) files)) (run_of-lone (with_file blocks (get_or files place d) (run_of old)))
@@ -69,7 +69,7 @@ files_step (Some image) files place d first old new is put rest = step_in (data_
 
 -- ---- the candidate
 
-named : (items : List Item) (blocks : Data) (bare filled whole : RunVolume) → bare ≡ lone bare_run → filled ≡ lone (with_files blocks (files_of items) (run_of bare)) → whole ≡ lone (with_names (names_of items) (run_of filled)) → whole ≡ lone (candidate items blocks)
+pub named : (items : List Item) (blocks : Data) (bare filled whole : RunVolume) → bare ≡ lone bare_run → filled ≡ lone (with_files blocks (files_of items) (run_of bare)) → whole ≡ lone (with_names (names_of items) (run_of filled)) → whole ≡ lone (candidate items blocks)
 named items blocks bare filled whole a b c =
     c ∙ ap (λ v. lone (with_names (names_of items) (run_of v))) b ∙ ap (λ r. lone (with_names (names_of items) r)) (run_of-lone (with_files blocks (files_of items) (run_of bare)))
     ∙ ap (λ v. lone (with_names (names_of items) (with_files blocks (files_of items) (run_of v)))) a ∙ ap (λ r. lone (with_names (names_of items) (with_files blocks (files_of items) r))) (run_of-lone bare_run)

@@ -14,8 +14,9 @@ use Rattle.std.proofs.lemmas.List.Elements.{Contains-append_left}
 use Rattle.one_leaf.specs.OneLeaf.{IsOneLeaf}
 use Rattle.mount_volume.specs.declared.fault.MountFault.{MountFault}
 use Rattle.mount_volume.specs.declared.fault.MountFault.TheVariants.{Super, Load}
+use Rattle.mount_volume.specs.Reading.{Leads}
 use Rattle.mount_volume.specs.Mount.{HasSuper, IsFlat, IsPlain, HasRootLeaf, IsOneRoot, LeadsToLeaf, IsMountFault, SuperFails, IsHigher, RootFails, HasOtherRoots, LeafFails, HasOtherItems}
-use Rattle.mount_volume.proofs.Standing.{IsStandingAt, is_standing, one_super, one_root}
+use Rattle.mount_volume.proofs.Standing.{IsStandingAt, is_standing, one_super, one_root, root_same}
 
 -- a walk has one answer
 one_answer : {A E : Type 0} (r : Result A E) (x : A) (e : E) → r ≡ Ok x → r ≡ Err e → ⊥
@@ -39,6 +40,14 @@ module _ (image : Image) where
 
   root_one : (s t : SuperValue) → HasSuper image s → HasSuper image t → tree_of image s.blocks (root_want s) [] ≡ tree_of image t.blocks (root_want t) []
   root_one s t a b = let e = one_super image s t a b in λ i. tree_of image (e i).blocks (root_want (e i)) []
+
+  -- where the root tree was read and its one root item leads to a leaf, the subvolume's tree is a leaf
+  pub is_flat : (super : SuperValue) (root : RootValue) → Leads image super root → IsFlat image
+  is_flat super root leads other item walked has read one =
+      let found = leads.leads in
+      let same = one_value (tree_of image super.blocks (root_want super) []) leads.walked walked found.root_leaf (root_one super other found.has_super has ∙ read) in
+      let items : AreRootItems leads.walked.items (5 ∷ []) (item ∷ []) = subst (λ (w : Walked). AreRootItems w.items (5 ∷ []) (item ∷ [])) (sym same) one in
+      sym (ap (λ (r : RootValue). r.level) (root_same leads.walked.items root item found.one_root.one items)) ∙ found.one_root.low
 
   -- what every fault but the superblock's own knows
   super_there : (f : MountFault) (fault : SuperFault) → super_of (super_block image) (length image) ≡ Err fault → (s : SuperValue) → HasSuper image s → ⊥

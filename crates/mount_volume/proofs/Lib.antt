@@ -5,4 +5,9 @@ pub mod Walks
 pub mod Parts
 pub mod Told
 pub mod Files
+pub mod Putting
+pub mod OwnBlocks
 pub mod Refusals
+mod MkfsItems
+mod MkfsCrash
+pub mod MkfsBlocks

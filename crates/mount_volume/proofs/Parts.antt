@@ -49,7 +49,7 @@ drop_next (x ∷ xs) (suc i) d below = drop_next xs i d (omega arith)
 pub drop_at : {X : Type 0} (xs : List X) (i : ℕ) (d : X) → i < length xs → drop i xs ≡ get_or xs i d ∷ drop (i + 1) xs
 drop_at xs i d below = drop_next xs i d below ∙ ap (λ n. get_or xs i d ∷ drop n xs) (sym (add-one i))
 
-drop_none : {X : Type 0} (xs : List X) (i : ℕ) → length xs ≤ i → drop i xs ≡ []
+pub drop_none : {X : Type 0} (xs : List X) (i : ℕ) → length xs ≤ i → drop i xs ≡ []
 drop_none [] zero past = refl
 drop_none [] (suc i) past = refl
 drop_none (x ∷ xs) zero past = absurd (omega arith)

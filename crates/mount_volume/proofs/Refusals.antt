@@ -10,12 +10,12 @@ use Rattle.blk_base.specs.Items.{RootValue}
 use Rattle.blk_base.specs.Leaf.{Item, leaf_body_of}
 use Rattle.blk_base.specs.Superblock.{SuperValue}
 use Rattle.disk_model.specs.Disk.{IfTold}
-use Rattle.flat_model.specs.Volume.{Volume, RunVolume}
+use Rattle.flat_model.specs.Volume.{Volume, RunVolume, volume_of}
 use Rattle.one_leaf.specs.OneLeaf.{IsOneLeaf}
 use Rattle.volume_format.specs.Views.{super_view}
 use Rattle.volume_image.specs.Stands.{Stands, data_of, root_want, sub_want}
 use Rattle.volume_image.specs.Subvolume.{data_addresses}
-use Rattle.volume_image.specs.Tree.{Image, tree_of}
+use Rattle.volume_image.specs.Tree.{Image, NoneTwice, tree_of}
 use Rattle.leaf_items.specs.Candidate.{candidate, lone, run_of}
 use Rattle.leaf_items.specs.Found.{AreFirstBlocks}
 use Rattle.leaf_items.specs.Passing.{IsLeafOf}
@@ -26,6 +26,7 @@ use Rattle.mount_volume.specs.declared.mounted.Mounted.{Mounted}
 use Rattle.mount_volume.specs.Answer.{IsMountedAs, IsToldFault, addresses_of}
 use Rattle.mount_volume.specs.Mount.{HasSuper, IsPlain, IsOneRoot, IsMountFault, IsHigher, RootFails, HasOtherRoots, LeafFails, HasOtherItems}
 use Rattle.mount_volume.specs.Reading.{IsWalkedLeaf, IsWalkFault, Leads, IsSoundReach}
+use Rattle.mount_volume.proofs.Law.{is_flat, no_refusal}
 use Rattle.mount_volume.proofs.Volumes.{IsLookedAt, mounted_as, no_first_blocks, no_leaf, no_sound_reach}
 
 -- an error that was handed on
@@ -125,6 +126,13 @@ all_mounted (Some image) m root bytes items looked first reach sound volume leaf
     mounted_as image m root bytes items looked first reach sound volume
     (subst (λ r. IsLeafOf items r.sub) (run_of-lone (candidate items (data_of image))) (subst (λ v. IsLeafOf items (run_of v).sub) volume leaf))
 
+-- no fault is the image's
+pub told_whole : (seen : Option Image) (m : Mounted) (super : SuperValue) (root : RootValue) → IfTold seen (λ image. Leads image super root) → IfTold seen (λ image. IsMountedAs image m)
+    → IfTold seen (λ image. (fault : MountFault) → IsMountFault image fault → ⊥)
+told_whole None m super root leads stands = tt
+told_whole (Some image) m super root leads stands = λ fault is.
+    no_refusal image (volume_of m.volume) stands.small (record { reach = addresses_of m.reach.items; by_reach = stands.stands }) (is_flat image super root leads) fault is
+
 -- ---- the addresses of the data blocks
 
 -- what a search for the addresses answered (own)
@@ -145,3 +153,6 @@ whole_reach root sub lent addresses reach items is same all = ap addresses_of is
 pub data_sound : (blocks root sub : ℕ) (reach : List ℕ) (items : List Item) → reach ≡ root ∷ sub ∷ data_addresses items → IsSoundReach blocks reach → All (IsAllowed blocks) (data_addresses items)
 data_sound blocks root sub reach items is sound =
     All-tail (IsAllowed blocks) sub (data_addresses items) (All-tail (IsAllowed blocks) root (sub ∷ data_addresses items) (subst (All (IsAllowed blocks)) is sound.allowed))
+
+pub data_once : (root sub : ℕ) (blocks : ℕ) (reach : List ℕ) (items : List Item) → reach ≡ root ∷ sub ∷ data_addresses items → IsSoundReach blocks reach → NoneTwice (data_addresses items)
+data_once root sub blocks reach items is sound = (subst NoneTwice is sound.once).1.1

@@ -128,7 +128,7 @@ pub record IsStandingLeaf (image : Image) (super : SuperValue) (root : RootValue
 small_of : (sub : Subvolume) → IsOneLeafSub sub → IsSmallSub sub
 small_of sub s = record { plain = s.plain; files = s.files; links = s.links }
 
-root_same : (items : List Item) (a b : RootValue) → AreRootItems items (5 ∷ []) (a ∷ []) → AreRootItems items (5 ∷ []) (b ∷ []) → a ≡ b
+pub root_same : (items : List Item) (a b : RootValue) → AreRootItems items (5 ∷ []) (a ∷ []) → AreRootItems items (5 ∷ []) (b ∷ []) → a ≡ b
 root_same [] a b x y = absurd x
 root_same (item ∷ []) a b x y = root_is_one item.1 a b x.1 y.1
 root_same (item ∷ next ∷ items) a b x y = absurd x.2

@@ -1,29 +1,31 @@
 -- What was read and built is a mounted volume, or there is none.
 use Rattle.std.proofs.Common.{◌≡◌, ◌≢◌, ◌≤◌, ◌<◌, ◌+◌, ◌*◌, ◌/◌, ◌++◌, ℕ, zero, suc, List, [], ◌∷◌, length, map, All, Contains, Option, Some, None, slice_get, Ok, refl, sym, ap, subst, ◌∙◌, arith, append-nil, ◌⊎◌, inl, inr}
 use Rattle.std.proofs.lemmas.List.Sums.{sum_by-cons}
+use Rattle.std.proofs.lemmas.List.{length-map}
 use Rattle.std.proofs.lemmas.List.Elements.{All-head, All-tail}
 use Rattle.std.proofs.lemmas.Bool.{cases_eq}
 use Rattle.std.specs.FinMap.{entries}
+use Rattle.blk_base.specs.declared.key.Addr.{Addr}
 use Rattle.blk_base.specs.Address.{IsAllowed}
 use Rattle.blk_base.specs.Keys.{extent_data}
 use Rattle.blk_base.specs.Leaf.{Item, IsLeafBody, data_of as bytes_of_data, leaf_body_of}
 use Rattle.blk_base.specs.Items.{RootValue}
 use Rattle.blk_base.specs.Superblock.{IsSuper, SuperValue}
 use Rattle.disk_model.specs.Disk.{IfTold}
-use Rattle.flat_model.specs.Volume.{Subvolume, Volume, RunSub, RunVolume, mounted, volume_of}
+use Rattle.flat_model.specs.Volume.{Subvolume, Volume, RunVolume, mounted, volume_of}
 use Rattle.flat_model.specs.Coherent.{IsCoherentVolume}
 use Rattle.format_laws.specs.Blocks.{IsLeafBody-from_read}
 use Rattle.format_laws.specs.Superblock.{IsSuper-from_read}
 use Rattle.leaf_edit.proofs.Crowd.{body_fits}
 use Rattle.volume_format.specs.Views.{super_view}
 use Rattle.volume_image.specs.Tree.{Image, IsTree, NoneTwice, Walked, tree_of}
-use Rattle.volume_image.specs.Subvolume.{AreItemsOf, data_addresses}
+use Rattle.volume_image.specs.Subvolume.{AreItemsOf, Data, data_addresses}
 use Rattle.volume_image.specs.Stands.{IsCommitted, IsSubvolumeAt, Stands, data_of, root_want, sub_want, super_block}
 use Rattle.volume_image.proofs.Lists.{in_nothing, in_cons}
 use Rattle.volume_image.proofs.Reaches.{head_in, tail_in}
 use Rattle.volume_image.proofs.Walk.{walked_alone}
 use Rattle.one_leaf.specs.OneLeaf.{IsOneLeaf, leaf_bytes}
-use Rattle.leaf_items.specs.Candidate.{candidate, lone}
+use Rattle.leaf_items.specs.Candidate.{candidate, lone, run_of}
 use Rattle.leaf_items.specs.Found.{AreFirstBlocks}
 use Rattle.leaf_items.specs.Passing.{HasData, IsLeafOf}
 use Rattle.leaf_items.proofs.Complete.{first_blocks, items_pass}
@@ -31,10 +33,11 @@ use Rattle.leaf_items.proofs.Extents.{one_address, no_address}
 use Rattle.leaf_items.proofs.Folds.{candidate_begun, candidate_is}
 use Rattle.leaf_items.proofs.Same.{same_subvolume}
 use Rattle.leaf_items.proofs.Sound.{passing_items}
-use Rattle.leaf_items.proofs.Volumes.{alone_entries, begun_alone, coherent_alone}
+use Rattle.leaf_items.proofs.Volumes.{alone_entries, begun_alone, coherent_alone, run_of-lone}
 use Rattle.mount_volume.specs.declared.mounted.Mounted.{Mounted}
-use Rattle.mount_volume.specs.Answer.{IsMountedAs, addresses_of}
-use Rattle.mount_volume.specs.Reading.{Leads, IsSoundReach}
+use Rattle.mount_volume.specs.Answer.{IsMountedAs, IsReady, addresses_of}
+use Rattle.mount_volume.specs.Reading.{IsBuilt, Leads, IsSoundReach}
+use Rattle.mount_volume.proofs.OwnBlocks.{body_rises, few_blocks}
 use Rattle.mount_volume.proofs.Standing.{IsStandingLeaf, leaf_alone, standing_leaf}
 
 -- ---- what is told
@@ -123,14 +126,58 @@ block_there [] at below = absurd (omega arith)
 block_there (block ∷ image) zero below = (block, refl)
 block_there (block ∷ image) (suc at) below = block_there image at (omega arith)
 
+-- a volume that was built of a leaf's items, with blocks where they lead to
+module _ (bytes : List ℕ) (items : List Item) (blocks : Data) (volume : RunVolume) (size : length bytes ≡ 4096) (body : IsLeafBody bytes items) (first : AreFirstBlocks items) (holding : HasData items blocks)
+    (built : volume ≡ lone (candidate items blocks)) (leaf : IsLeafOf items (candidate items blocks).sub) where
+  pub built_items : AreItemsOf items blocks (candidate items blocks).sub
+  built_items = let rise = body_rises bytes items body in passing_items items blocks (candidate items blocks).sub rise first holding (candidate_is items blocks rise) leaf.whole leaf.small leaf.passes
+
+  pub built_fits : leaf_bytes items ≤ 3995
+  built_fits = let few = body_fits bytes items size body in let all = takes items in omega arith
+
+  pub built_alone : entries (volume_of volume) ≡ (5, (candidate items blocks).sub) ∷ []
+  built_alone = ap (λ v. entries (volume_of v)) built ∙ alone_entries (candidate items blocks)
+
+  pub built_small : IsOneLeaf (volume_of volume)
+  built_small = record {
+    sub = (candidate items blocks).sub;
+    alone = built_alone;
+    small = record { plain = leaf.small.plain; files = leaf.small.files; links = leaf.small.links; fits = record { items = items; blocks = blocks; are = built_items; rise = body_rises bytes items body; few = built_fits } };
+  }
+
+  pub built_begun : volume ≡ mounted (volume_of volume)
+  built_begun = built ∙ begun_alone (candidate items blocks) (candidate_begun items blocks) ∙ ap (λ v. mounted (volume_of v)) (sym built)
+
+  pub built_coherent : IsCoherentVolume (volume_of volume)
+  built_coherent = subst (λ (v : RunVolume). IsCoherentVolume (volume_of v)) (sym built) (coherent_alone (candidate items blocks) leaf.whole)
+
+-- a mounted volume, whatever the disk tells
+pub is_ready : (m : Mounted) (count root sub : ℕ) (bytes : List ℕ) (items : List Item) → length bytes ≡ 4096 → leaf_body_of bytes ≡ Ok items → AreFirstBlocks items → addresses_of m.reach.items ≡ root ∷ sub ∷ data_addresses items
+    → IsBuilt items m.volume → IsLeafOf items (run_of m.volume).sub → 4096 ≤ m.superblock.blocks → m.superblock.blocks ≤ 65536 → m.superblock.blocks ≤ count → IsReady m count
+is_ready m count root sub bytes items size read first reach made leaf least most on_disk =
+    let body = IsLeafBody-from_read bytes items read in
+    let holding : HasData items made.blocks = λ at has. made.full at in
+    let passing = subst (λ r. IsLeafOf items r.sub) (run_of-lone (candidate items made.blocks)) (subst (λ v. IsLeafOf items (run_of v).sub) made.built leaf) in
+    record {
+      coherent = built_coherent bytes items made.blocks m.volume size body first holding made.built passing;
+      small = built_small bytes items made.blocks m.volume size body first holding made.built passing;
+      begun = built_begun bytes items made.blocks m.volume size body first holding made.built passing;
+      least = least;
+      most = most;
+      on_disk = on_disk;
+      few =
+          let all = built_fits bytes items made.blocks m.volume size body first holding made.built passing in
+          let data_blocks = few_blocks items first in
+          let long : length (addresses_of m.reach.items) ≡ length (root ∷ sub ∷ data_addresses items) = ap length reach in
+          let same = length-map m.reach.items (λ (at : Addr). at.0) in
+          omega arith;
+    }
+
 module _ (image : Image) (m : Mounted) (root : RootValue) (bytes : List ℕ) (items : List Item) (looked : IsLookedAt image (super_view m.superblock) root bytes items) (first : AreFirstBlocks items)
     (reach : addresses_of m.reach.items ≡ (super_view m.superblock).root ∷ root.at ∷ data_addresses items) (sound : IsSoundReach (super_view m.superblock).blocks (addresses_of m.reach.items))
     (volume : m.volume ≡ lone (candidate items (data_of image))) (leaf : IsLeafOf items (candidate items (data_of image)).sub) where
   super : SuperValue
   super = super_view m.superblock
-
-  run : RunSub
-  run = candidate items (data_of image)
 
   is_super : IsSuper (super_block image) (length image) (super_view m.superblock)
   is_super = IsSuper-from_read (super_block image) (length image) (super_view m.superblock) looked.leads.leads.has_super
@@ -151,22 +198,19 @@ module _ (image : Image) (m : Mounted) (root : RootValue) (bytes : List ℕ) (it
   tree : IsTree image (super_view m.superblock).blocks (sub_want (super_view m.superblock) 5 root) items (root.at ∷ [])
   tree = leaf_tree image (super_view m.superblock) root bytes items looked
 
+  body : IsLeafBody bytes items
+  body = IsLeafBody-from_read bytes items looked.body
+
   are : AreItemsOf items (data_of image) (candidate items (data_of image)).sub
-  are = passing_items items (data_of image) (candidate items (data_of image)).sub tree.order first holding (candidate_is items (data_of image) tree.order) leaf.whole leaf.small leaf.passes
+  are = built_items bytes items (data_of image) m.volume looked.size body first holding volume leaf
 
   sub_at : IsSubvolumeAt image (super_view m.superblock) 5 root (candidate items (data_of image)).sub (root.at ∷ data_addresses items)
   sub_at = record { items = items; tree_reach = root.at ∷ []; tree = tree; same = are; allowed = data_allowed; reached = refl }
 
-  body : IsLeafBody bytes items
-  body = IsLeafBody-from_read bytes items looked.body
-
-  fits : leaf_bytes items ≤ 3995
-  fits = let few = body_fits bytes items looked.size body in let all = takes items in omega arith
-
   committed : IsCommitted image (super_view m.superblock) (volume_of m.volume) ((super_view m.superblock).root ∷ root.at ∷ data_addresses items)
   committed =
       let leads = looked.leads.leads in
-      let alone : entries (volume_of m.volume) ≡ (5, (candidate items (data_of image)).sub) ∷ [] = ap (λ v. entries (volume_of v)) volume ∙ alone_entries (candidate items (data_of image)) in
+      let alone : entries (volume_of m.volume) ≡ (5, (candidate items (data_of image)).sub) ∷ [] = built_alone bytes items (data_of image) m.volume looked.size body first holding volume leaf in
       record {
         items = looked.leads.walked.items;
         roots = root ∷ [];
@@ -181,17 +225,13 @@ module _ (image : Image) (m : Mounted) (root : RootValue) (bytes : List ℕ) (it
         subvolumes = rw alone (root.at ∷ data_addresses items, [], sub_at, refl, sym (append-nil (root.at ∷ data_addresses items)));
         reached = refl;
         once = subst NoneTwice reach sound.once;
-        coherent = subst (λ (v : RunVolume). IsCoherentVolume (volume_of v)) (sym volume) (coherent_alone (candidate items (data_of image)) leaf.whole);
+        coherent = built_coherent bytes items (data_of image) m.volume looked.size body first holding volume leaf;
       }
 
   pub mounted_as : IsMountedAs image m
   mounted_as = record {
-    small = record {
-      sub = (candidate items (data_of image)).sub;
-      alone = ap (λ v. entries (volume_of v)) volume ∙ alone_entries (candidate items (data_of image));
-      small = record { plain = leaf.small.plain; files = leaf.small.files; links = leaf.small.links; fits = record { items = items; blocks = data_of image; are = are; rise = tree.order; few = fits } };
-    };
-    begun = volume ∙ begun_alone (candidate items (data_of image)) (candidate_begun items (data_of image)) ∙ ap (λ v. mounted (volume_of v)) (sym volume);
+    small = built_small bytes items (data_of image) m.volume looked.size body first holding volume leaf;
+    begun = built_begun bytes items (data_of image) m.volume looked.size body first holding volume leaf;
     superblock = looked.leads.leads.has_super;
     stands = record {
       super = super_view m.superblock;

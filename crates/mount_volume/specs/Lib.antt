@@ -1,3 +1,4 @@
 pub mod Mount
 pub mod Answer
 pub mod Reading
+pub mod Mkfs

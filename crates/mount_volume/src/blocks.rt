@@ -58,6 +58,8 @@ fn read_super_block<D: Disk>(disk: &mut D, into: &mut Block) -> Result<(), DiskF
 /// Reads the superblock ("Superblock" of the Btrfs on-disk format).
 pub(crate) fn read_super<D: Disk>(disk: &mut D) -> Result<Super, MountFault>
     ensures ok { IfOk result (λ superblock. IfTold (D.seen disk.old) (λ image. HasSuper image (super_view superblock))) }
+    ensures least { IfOk result (λ superblock. 4096 ≤ superblock.blocks) }
+    ensures most { IfOk result (λ superblock. superblock.blocks ≤ 65536) }
     ensures on_disk { IfOk result (λ superblock. superblock.blocks ≤ D.count disk.old) }
     ensures fault { IfErr result (IsToldFault (D.seen disk.old)) }
     ensures disk_fault { (result ≡ Err MountFault.Disk) → HasRisen (D.faults disk.old) (D.faults disk.new) }

@@ -4,7 +4,7 @@ ghost use Rattle.disk_model.specs.Disk.{IfTold};
 ghost use Rattle.leaf_items.specs.Candidate.{IsLone, lone, run_of, with_file, with_files};
 ghost use Rattle.volume_image.specs.Stands.{data_of};
 ghost use Rattle.mount_volume.specs.Answer.{HasRisen};
-ghost use Rattle.mount_volume.specs.Reading.{IsDiskOrMemory, IsInside};
+ghost use Rattle.mount_volume.specs.Reading.{ArePut, HaveOwnBlocks, IsDiskOrMemory, IsInside, IsPut};
 
 use crate::MountFault;
 use crate::blocks::read_block;
@@ -23,6 +23,7 @@ fn load_file<D: Disk>(
     requires lone { IsLone volume.old }
     requires inside { IsInside (D.count disk.old) file.now }
     ensures ok { OnOk result (IfTold (D.seen disk.old) (λ image. volume.new ≡ lone (with_file (data_of image) file.now (run_of volume.old)))) }
+    ensures put { OnOk result (IsPut file.now volume.old volume.new) }
     ensures lone { OnOk result (IsLone volume.new) }
     ensures fault { IfErr result IsDiskOrMemory }
     ensures disk_fault { (result ≡ Err MountFault.Disk) → HasRisen (D.faults disk.old) (D.faults disk.new) }
@@ -52,7 +53,9 @@ pub(crate) fn load_files<D: Disk>(
 ) -> Result<(), MountFault>
     requires lone { IsLone volume.old }
     requires inside { All (IsInside (D.count disk.old)) files.now }
+    requires own_blocks { HaveOwnBlocks files.now }
     ensures ok { OnOk result (IfTold (D.seen disk.old) (λ image. volume.new ≡ lone (with_files (data_of image) files.now (run_of volume.old)))) }
+    ensures put { OnOk result (ArePut files.now volume.old volume.new) }
     ensures lone { OnOk result (IsLone volume.new) }
     ensures fault { IfErr result IsDiskOrMemory }
     ensures disk_fault { (result ≡ Err MountFault.Disk) → HasRisen (D.faults disk.old) (D.faults disk.new) }

@@ -1,18 +1,21 @@
 //! Mount of a volume that stands in one leaf: its superblock, the leaf of the root tree, the leaf of its subvolume and
-//! the data blocks are read, and the volume is made of them in memory.
+//! the data blocks are read, and the volume is made of them in memory. `mkfs` makes an empty volume that can be mounted.
 #![tactic(auto)]
 
 mod blocks;
 mod data;
 mod fault;
 pub mod laws;
+mod make;
 mod mounted;
 mod mounting;
 mod reach;
 mod roots;
 #[cfg(test)]
 mod tests;
+mod volume_blocks;
 
 pub use fault::MountFault;
+pub use make::{LEAST_BLOCKS, MOST_BLOCKS, MkfsFault, mkfs};
 pub use mounted::Mounted;
 pub use mounting::mount;

@@ -5,8 +5,9 @@ ghost use Rattle.leaf_items.specs.Found.{files_of};
 ghost use Rattle.volume_image.specs.Stands.{data_of};
 ghost use Rattle.disk_model.specs.Disk.{IfTold};
 ghost use Rattle.volume_format.specs.Views.{root_view, super_view};
-ghost use Rattle.mount_volume.specs.Answer.{HasRisen, IsMountedAs, IsToldFault};
-ghost use Rattle.mount_volume.specs.Reading.{IsDiskOrMemory, IsInside, Leads};
+ghost use Rattle.mount_volume.specs.Answer.{HasRisen, IsMountedAs, IsReady, IsToldFault};
+ghost use Rattle.mount_volume.specs.Mount.{IsMountFault};
+ghost use Rattle.mount_volume.specs.Reading.{HaveOwnBlocks, IsBuilt, IsDiskOrMemory, IsInside, Leads};
 
 use crate::blocks::{read_leaf, read_super};
 use crate::data::load_files;
@@ -26,8 +27,10 @@ fn load_volume<D: Disk>(
     disk: &mut D,
     leaf: &LeafView<'_>,
 ) -> Result<FlatVolume, MountFault>
-    requires { All (IsInside (D.count disk.old)) (files_of leaf.now) }
+    requires inside { All (IsInside (D.count disk.old)) (files_of leaf.now) }
+    requires own_blocks { HaveOwnBlocks (files_of leaf.now) }
     ensures ok { IfOk result (λ volume. IfTold (D.seen disk.old) (λ image. volume ≡ lone (candidate leaf.now (data_of image)))) }
+    ensures built { IfOk result (IsBuilt leaf.now) }
     ensures lone { IfOk result IsLone }
     ensures fault { IfErr result IsDiskOrMemory }
     ensures disk_fault { (result ≡ Err MountFault.Disk) → HasRisen (D.faults disk.old) (D.faults disk.new) }
@@ -50,10 +53,14 @@ fn mount_sub<D: Disk>(
     superblock: Super,
     root: RootItem,
 ) -> Result<Mounted, MountFault>
+    requires least { 4096 ≤ superblock.blocks }
+    requires most { superblock.blocks ≤ 65536 }
     requires on_disk { superblock.blocks ≤ D.count disk.old }
     requires low { root.level ≡ 0 }
     requires leads { IfTold (D.seen disk.old) (λ image. Leads image (super_view superblock) (root_view root)) }
     ensures stands { IfOk result (λ mounted. IfTold (D.seen disk.old) (λ image. IsMountedAs image mounted)) }
+    ensures whole { IfOk result (λ _. IfTold (D.seen disk.old) (λ image. (fault : MountFault) → IsMountFault image fault → ⊥)) }
+    ensures ready { IfOk result (λ mounted. IsReady mounted (D.count disk.old)) }
     ensures fault { IfErr result (IsToldFault (D.seen disk.old)) }
     ensures disk_fault { (result ≡ Err MountFault.Disk) → HasRisen (D.faults disk.old) (D.faults disk.new) }
     ensures size { D.count disk.new ≡ D.count disk.old }
@@ -87,6 +94,9 @@ fn mount_sub<D: Disk>(
 /// Mounts a volume that stands in one leaf: reads its superblock, the root tree's leaf, the subvolume's leaf and the
 /// data blocks ("open_ctree" of fs/btrfs/disk-io.c). Writes nothing.
 ///
+/// Where the disk tells its image, one that was mounted has no fault. On every disk, also on one that tells nothing, the
+/// volume is coherent and stands in one leaf, it has 4096 to 65536 blocks, all of them on the disk, and reaches at most 60.
+///
 /// # Errors
 ///
 /// `Super`, `Load` and `OneLeaf` are the image's first fault in the order of reading; `OneLeaf` comes for a log, for a
@@ -94,6 +104,8 @@ fn mount_sub<D: Disk>(
 /// failed in this call.
 pub fn mount<D: Disk>(alloc: Global, disk: &mut D) -> Result<Mounted, MountFault>
     ensures stands { IfOk result (λ mounted. IfTold (D.seen disk.old) (λ image. IsMountedAs image mounted)) }
+    ensures whole { IfOk result (λ _. IfTold (D.seen disk.old) (λ image. (fault : MountFault) → IsMountFault image fault → ⊥)) }
+    ensures ready { IfOk result (λ mounted. IsReady mounted (D.count disk.old)) }
     ensures fault { IfErr result (IsToldFault (D.seen disk.old)) }
     ensures disk_fault { (result ≡ Err MountFault.Disk) → HasRisen (D.faults disk.old) (D.faults disk.new) }
     ensures size { D.count disk.new ≡ D.count disk.old }

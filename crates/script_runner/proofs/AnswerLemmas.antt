@@ -1,5 +1,5 @@
 -- The answers and texts of `list`.
-use Rattle.std.proofs.Common.{◌≡◌, ◌⊎◌, inr, ℕ, List, Option, Some, None, refl}
+use Rattle.std.proofs.Common.{◌≡◌, ◌⊎◌, inl, inr, ℕ, List, Option, Some, None, refl, subst, sym}
 use Rattle.disk_model.specs.Disk.{IfTold}
 use Rattle.io_edge.specs.Edge.{Takes}
 use Rattle.flat_model.specs.Volume.{volume_of}
@@ -11,9 +11,9 @@ use Rattle.mount_volume.specs.declared.mounted.Mounted.{Mounted}
 use Rattle.mount_volume.specs.Answer.{IsMountedAs, IsToldFault}
 use Rattle.mount_volume.proofs.Law.{no_refusal}
 use Rattle.script_runner.specs.declared.status.Status.{Status}
-use Rattle.script_runner.specs.declared.status.Status.TheVariants.{Done, Usage, NoVolume, DiskFault, WriteFault, Memory, MkfsRange}
-use Rattle.script_runner.specs.Commands.{HasOneLeaf, IsListAnswer, IsListText, IsListing, IsTold, status_of}
-use Rattle.script_runner.proofs.SinkLemmas.{Takes-front}
+use Rattle.script_runner.specs.declared.status.Status.TheVariants.{Done, Usage, BadScript, NoVolume, DiskFault, ReadFault, WriteFault, Memory, MkfsRange}
+use Rattle.script_runner.specs.Commands.{HasOneLeaf, IsDoneText, IsList, IsListAnswer, IsListText, IsListing, IsTextOf, IsTold, made_line, status_of}
+use Rattle.io_edge.proofs.Sinks.{Takes-front}
 
 -- the whole text was taken
 pub told_whole : (status : Status) (text : List ℕ) (before after : Option (List ℕ)) (faults faults_now : ℕ) → Takes before text after → IsTold status text before after faults faults_now
@@ -35,6 +35,8 @@ mounted_text seen mounted (NoVolume fault) text stands is = is
 mounted_text seen mounted DiskFault text stands is = is
 mounted_text seen mounted Memory text stands is = is
 mounted_text seen mounted MkfsRange text stands is = is
+mounted_text seen mounted (BadScript line kind) text stands is = is
+mounted_text seen mounted (ReadFault taken) text stands is = is
 
 -- a volume that stands isn't refused
 pub refused : (seen : Option Image) (fault : MountFault) (status : Status) (disk_risen sink_risen : Type 0) → IsToldFault seen fault → (fault ≡ Disk → disk_risen) → status ≡ status_of fault
@@ -45,3 +47,12 @@ refused (Some image) (Load fault) status disk_risen sink_risen told cause is = �
 refused (Some image) OneLeaf status disk_risen sink_risen told cause is = λ it no _. absurd (no_refusal image it.volume it.small it.stands it.flat OneLeaf told)
 refused (Some image) Disk status disk_risen sink_risen told cause is = λ it no _. absurd (no (cause refl))
 refused (Some image) OutOfMemory status disk_risen sink_risen told cause is = λ it no _. inr is
+
+-- the text of a volume that was made
+pub made_text : (words : List (List ℕ)) (seen : Option Image) (status : Status) → (status ≡ Done) ⊎ (status ≡ WriteFault) → (IsList words → ⊥) → IsTextOf words seen status (made_line words)
+made_text words seen status is no_list =
+    let text : IsDoneText words seen (made_line words) = record { made = λ _. refl; listed = λ list. absurd (no_list list) } in
+    elim is [
+      | inl done ↦ subst (λ (s : Status). IsTextOf words seen s (made_line words)) (sym done) text
+      | inr failed ↦ subst (λ (s : Status). IsTextOf words seen s (made_line words)) (sym failed) text
+    ]

@@ -1,5 +1,6 @@
 -- Commands, when each of their answers comes, and the texts of these answers.
-use Rattle.std.specs.Prelude.{◌≡◌, ◌≢◌, ◌≤◌, ◌+◌, ◌-◌, ◌^◌, ◌⊎◌, ◌++◌, ◌∷◌, [], ℕ, List, map, min, codes, string_bytes, String, Option, Some}
+use Rattle.std.specs.Prelude.{◌≡◌, ◌≢◌, ◌≤◌, ◌⊎◌, ◌++◌, ◌∷◌, [], ℕ, List, map, codes, string_bytes, String, Option, Some}
+use Rattle.std.specs.Fmt.{decimal}
 use Rattle.uuid.specs.Text.{parsed}
 use Rattle.disk_model.specs.Disk.{IfTold}
 use Rattle.io_edge.specs.Edge.{Takes, TakesFront}
@@ -10,9 +11,12 @@ use Rattle.volume_listing.specs.Listing.{listing_of}
 use Rattle.one_leaf.specs.OneLeaf.{IsOneLeaf}
 use Rattle.mount_volume.specs.declared.fault.MountFault.{MountFault}
 use Rattle.mount_volume.specs.declared.fault.MountFault.TheVariants.{Disk, OutOfMemory}
+use Rattle.mount_volume.specs.Answer.{HasRisen}
+use Rattle.mount_volume.specs.Mkfs.{MayBeMade}
 use Rattle.mount_volume.specs.Mount.{IsFlat, IsMountFault}
 use Rattle.script_runner.specs.declared.status.Status.{Status}
-use Rattle.script_runner.specs.declared.status.Status.TheVariants.{Done, Usage, NoVolume, DiskFault, WriteFault, Memory, MkfsRange}
+use Rattle.script_runner.specs.declared.status.Status.TheVariants.{Done, Usage, BadScript, NoVolume, DiskFault, ReadFault, WriteFault, Memory, MkfsRange}
+use Rattle.script_text.specs.Kinds.{kind_word}
 use Rattle.script_runner.specs.Faults.{fault_line}
 use Rattle.script_runner.specs.Words.{IsNumber, IsUuidText}
 
@@ -32,16 +36,13 @@ IsAnyMkfs words = (fsid : List ℕ) × (blocks : List ℕ) × (subs : List ℕ) 
 abbrev pub IsList : List (List ℕ) → Type 0
 IsList words = words ≡ codes "list" ∷ []
 
+-- the word is `run` (own)
+abbrev pub IsRun : List (List ℕ) → Type 0
+IsRun words = words ≡ codes "run" ∷ []
+
 -- the words are a command (own)
 abbrev pub IsCommand : List (List ℕ) → Type 0
-IsCommand words = IsAnyMkfs words ⊎ IsList words
-
--- a volume may have so many blocks, and so many subvolumes, on a disk of so many blocks (own)
-pub record MayBeMade (disk_blocks blocks subs : ℕ) : Type 0 where
-  pub least : 4096 ≤ blocks
-  pub most : blocks ≤ 65536
-  pub on_disk : blocks ≤ disk_blocks
-  pub one_subvolume : subs ≡ 1
+IsCommand words = IsAnyMkfs words ⊎ IsList words ⊎ IsRun words
 
 -- the three words of `mkfs` are the text of a uuid, and the numbers of blocks and of subvolumes of a volume that may be made (own)
 pub record AreInRange (disk_blocks : ℕ) (fsid blocks subs : List ℕ) : Type 0 where
@@ -85,10 +86,6 @@ pub record Says (fsid blocks subs : List ℕ) (bytes : List ℕ) (block_count su
   pub blocks_are : IsNumber blocks block_count
   pub subvolumes_are : IsNumber subs subvolume_count
 
--- A count of faults rose. At 2^64 - 1 it stands still, which counts as risen (own).
-abbrev pub HasRisen : ℕ → ℕ → Type 0
-HasRisen before now = min (before + 1) (2 ^ 64 - 1) ≤ now
-
 -- the command was done, whether or not its text could be written (own)
 abbrev pub IsDone : Status → Type 0
 IsDone Done = Unit {0}
@@ -99,8 +96,10 @@ IsDone other = ⊥
 abbrev pub code_of : Status → ℕ
 code_of Done = 0
 code_of Usage = 1
+code_of (BadScript line kind) = 2
 code_of (NoVolume fault) = 3
 code_of DiskFault = 4
+code_of (ReadFault taken) = 5
 code_of WriteFault = 6
 code_of Memory = 7
 code_of MkfsRange = 8
@@ -116,6 +115,31 @@ pub record IsFaultOf (seen : Option Image) (fault : MountFault) : Type 0 where
   pub of_image : IfTold seen (λ image. IsMountFault image fault)
   pub not_disk : fault ≢ Disk
   pub not_memory : fault ≢ OutOfMemory
+
+-- an answer that a `mkfs`, or words that are no command, may have (own)
+abbrev pub IsOfMkfs : Status → Type 0
+IsOfMkfs (NoVolume fault) = ⊥
+IsOfMkfs (BadScript line kind) = ⊥
+IsOfMkfs (ReadFault taken) = ⊥
+IsOfMkfs other = Unit {0}
+
+-- the source or its script has a fault (own)
+abbrev pub IsOfScript : Status → Type 0
+IsOfScript (BadScript line kind) = Unit {0}
+IsOfScript (ReadFault taken) = Unit {0}
+IsOfScript other = ⊥
+
+-- an answer that a `list` may have (own)
+abbrev pub IsOfList : Status → Type 0
+IsOfList Usage = ⊥
+IsOfList MkfsRange = ⊥
+IsOfList (BadScript line kind) = ⊥
+IsOfList (ReadFault taken) = ⊥
+IsOfList other = Unit {0}
+
+-- a mount finds no fault in the image (own)
+abbrev pub IsFaultless : Image → Type 0
+IsFaultless image = (fault : MountFault) → IsMountFault image fault → ⊥
 
 -- the image stands for a volume in one leaf, by that leaf and no higher tree (own)
 pub record HasOneLeaf (image : Image) : Type 0 where
@@ -137,8 +161,10 @@ made_line words = []
 abbrev pub answer_line : Status → List ℕ
 answer_line Done = []
 answer_line Usage = codes "usage\n"
+answer_line (BadScript line kind) = codes "script " ++ decimal line ++ codes " " ++ kind_word kind ++ codes "\n"
 answer_line (NoVolume fault) = fault_line fault
 answer_line DiskFault = codes "disk\n"
+answer_line (ReadFault taken) = codes "read\n"
 answer_line WriteFault = []
 answer_line Memory = codes "memory\n"
 answer_line MkfsRange = codes "range\n"

@@ -2,3 +2,4 @@ pub mod Words
 pub mod Faults
 pub mod Commands
 pub mod Mkfs
+pub mod Run

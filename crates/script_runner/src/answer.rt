@@ -1,12 +1,29 @@
 //! The lines of answers that don't depend on the command.
-ghost use Rattle.std.specs.Prelude.{◌≡◌, ◌≤◌, OnOk, OnErr};
+ghost use Rattle.std.specs.Prelude.{◌≡◌, ◌≤◌, ◌++◌, OnOk, OnErr, codes};
+ghost use Rattle.std.specs.Fmt.{decimal};
+ghost use Rattle.script_text.specs.Kinds.{kind_word};
 ghost use Rattle.io_edge.specs.Edge.{Takes, TakesFront, HasCause};
-ghost use Rattle.script_runner.specs.Commands.{HasRisen, answer_line};
+ghost use Rattle.mount_volume.specs.Answer.{HasRisen};
+ghost use Rattle.script_runner.specs.Commands.{answer_line};
 
 use crate::Status;
 use crate::fault_text::put_fault;
-use crate::text::put;
-use io_edge::{Sink, SinkFailed};
+use io_edge::{Sink, SinkFailed, put, put_all};
+use itoa::Buffer;
+use script_text::ScriptKind;
+
+/// Writes the line of a script's first fault.
+fn put_script_fault<K: Sink>(to: &mut K, line: u32, kind: ScriptKind) -> Result<(), SinkFailed>
+    ensures whole { OnOk result (Takes (K.taken to.old) (codes "script " ++ decimal line ++ codes " " ++ kind_word kind ++ codes "\n") (K.taken to.new)) }
+    ensures front { OnErr result (TakesFront (K.taken to.old) (codes "script " ++ decimal line ++ codes " " ++ kind_word kind ++ codes "\n") (K.taken to.new)) }
+    ensures cause { HasCause (K.faults to.old) (K.faults to.new) result }
+{
+    let mut buffer = Buffer::new();
+    put_all(
+        to,
+        &["script ", buffer.format(line), " ", kind.word(), "\n"],
+    )
+}
 
 /// Writes the line of an answer; none after `Done` and `WriteFault`.
 pub(crate) fn put_answer<K: Sink>(to: &mut K, status: Status) -> Result<(), SinkFailed>
@@ -16,8 +33,10 @@ pub(crate) fn put_answer<K: Sink>(to: &mut K, status: Status) -> Result<(), Sink
 {
     match status {
         Status::Usage => put(to, b"usage\n"),
+        Status::BadScript { line, kind } => put_script_fault(to, line, kind),
         Status::NoVolume(fault) => put_fault(to, fault),
         Status::DiskFault => put(to, b"disk\n"),
+        Status::ReadFault { .. } => put(to, b"read\n"),
         Status::Memory => put(to, b"memory\n"),
         Status::MkfsRange => put(to, b"range\n"),
         Status::Done | Status::WriteFault => put(to, b""),

@@ -1,29 +1,36 @@
-ghost use Rattle.std.specs.Prelude.{◌≡◌, ◌≤◌, ◌⊎◌, ◌↔◌, ℕ, List, ◌≢◌, OnOk, OnErr, IsTrue};
+ghost use Rattle.std.specs.Prelude.{◌≡◌, ◌≤◌, ◌⊎◌, ◌↔◌, ◌∷◌, [], ℕ, List, ◌≢◌, OnOk, OnErr, IsTrue};
 ghost use Rattle.flat_model.specs.Volume.{bare_volume};
 ghost use Rattle.disk_model.specs.Disk.{IfTold};
 ghost use Rattle.io_edge.specs.Edge.{Takes, TakesFront, HasCause};
 ghost use Rattle.volume_image.specs.Stands.{Stands};
 ghost use Rattle.mount_volume.specs.declared.fault.MountFault.{MountFault};
-ghost use Rattle.script_runner.specs.Commands.{AreInRange, HasOneLeaf, HasRisen, IsAnyMkfs, IsCommand, IsDone, IsFaultOf, IsInRange, IsList, IsOutOfRange, IsTextOf, IsTold, bytes_of, made_line};
-ghost use Rattle.script_runner.specs.Mkfs.{CrashLeaves, HasSuperAsked, HasSuperOf, IsOldOrBare};
+ghost use Rattle.mount_volume.specs.Answer.{HasRisen};
+ghost use Rattle.script_text.specs.declared.fault.ScriptKind.{ScriptKind};
+ghost use Rattle.script_runner.specs.Run.{IsRunAnswer, outside};
+ghost use Rattle.script_runner.specs.Commands.{IsOfMkfs, AreInRange, HasOneLeaf, IsAnyMkfs, IsCommand, IsDone, IsFaultOf, IsFaultless, IsInRange, IsList, IsOfScript, IsOutOfRange, IsRun, IsTextOf, IsTold, bytes_of, made_line};
+ghost use Rattle.mount_volume.specs.Mkfs.{CrashLeaves, IsOldOrBare};
+ghost use Rattle.script_runner.specs.Mkfs.{HasSuperAsked, HasSuperOf};
 
 use crate::Status;
 use crate::answer::answer;
 use crate::list::list;
-use crate::make::{MkfsFault, mkfs};
 use crate::request::Request;
+use crate::run::run;
 use crate::text::put_made;
 use disk_model::Disk;
 use io_edge::{Sink, SinkFailed, Source};
+use mount_volume::{MkfsFault, mkfs};
 use std::alloc::Global;
 
 /// Does what the words ask, on the disk, and writes text about it to the sink. The words are those behind an image's
 /// path.
 ///
 /// `mkfs FSID BLOCKS SUBS` makes an empty volume and writes `made BLOCKS SUBS`; SUBS is 1 until there are full commits.
-/// `list` mounts the volume, which writes nothing to the disk, and writes its listing. Other words are no command. Every
-/// other answer but `WriteFault` has a line of its own. The causes are looked for in this order: `Usage`, `MkfsRange`, the
-/// disk, the volume and memory, and then the sink (own).
+/// `list` mounts the volume, which writes nothing to the disk, and writes its listing. `run` reads a script from the source,
+/// to its end, mounts the volume and runs the script: it writes a line for each call that has finished, and then `done N`,
+/// with N the number of calls. Other words are no command. Every other answer but `WriteFault` has a line of its own. The
+/// causes are looked for in this order: `Usage`, `MkfsRange`, the source, `BadScript`, the volume, and then the calls of a
+/// script with their lines; memory stands where it was wanted. A script with a fault leaves the disk without a call (own).
 pub fn drive<S: Source, K: Sink, D: Disk>(
     alloc: Global,
     words: &[String],
@@ -34,32 +41,46 @@ pub fn drive<S: Source, K: Sink, D: Disk>(
     // Which answer comes.
     ensures usage { (result ≡ Status.Usage) ↔ (IsCommand (bytes_of words.now) → ⊥) }
     ensures range { (result ≡ Status.MkfsRange) ↔ IsOutOfRange (bytes_of words.now) (D.count disk.old) }
-    ensures no_volume { (fault : MountFault) → (result ≡ Status.NoVolume fault) → IsList (bytes_of words.now) × IsFaultOf (D.seen disk.old) fault }
+    ensures bad_script { (line : ℕ) (kind : ScriptKind) → (result ≡ Status.BadScript line kind) → IsRun (bytes_of words.now) × (disk.new ≡ disk.old) }
+    ensures read_fault { (taken : ℕ) → (result ≡ Status.ReadFault taken) → IsRun (bytes_of words.now) × (disk.new ≡ disk.old) }
+    ensures no_volume { (fault : MountFault) → (result ≡ Status.NoVolume fault) → (IsList (bytes_of words.now) ⊎ IsRun (bytes_of words.now)) × IsFaultOf (D.seen disk.old) fault }
     ensures disk_fault { (result ≡ Status.DiskFault) → HasRisen (D.faults disk.old) (D.faults disk.new) }
     ensures write_fault { (result ≡ Status.WriteFault) → HasRisen (K.faults to.old) (K.faults to.new) }
     ensures complete { IsInRange (bytes_of words.now) (D.count disk.old) → (HasRisen (D.faults disk.old) (D.faults disk.new) → ⊥) → (HasRisen (K.faults to.old) (K.faults to.new) → ⊥)
         → (result ≡ Status.Done) ⊎ (result ≡ Status.Memory) }
     ensures list_complete { IsList (bytes_of words.now) → IfTold (D.seen disk.old) (λ image. HasOneLeaf image
         → (HasRisen (D.faults disk.old) (D.faults disk.new) → ⊥) → (HasRisen (K.faults to.old) (K.faults to.new) → ⊥) → (result ≡ Status.Done) ⊎ (result ≡ Status.Memory)) }
+    ensures run_complete { IsRun (bytes_of words.now) → IfTold (D.seen disk.old) (λ image. HasOneLeaf image
+        → (HasRisen (D.faults disk.old) (D.faults disk.new) → ⊥) → (HasRisen (K.faults to.old) (K.faults to.new) → ⊥) → (result ≡ Status.Done) ⊎ (result ≡ Status.Memory) ⊎ IsOfScript result) }
 
     // What is left of the source, what the sink was told, and what stays.
-    ensures source { from.new ≡ from.old }
+    ensures source { (IsRun (bytes_of words.now) → ⊥) → from.new ≡ from.old }
     ensures untouched { (result ≡ Status.Usage) ⊎ (result ≡ Status.MkfsRange) → disk.new ≡ disk.old }
     ensures mkfs_untouched { IsAnyMkfs (bytes_of words.now) → (result ≡ Status.Memory) → disk.new ≡ disk.old }
     ensures list_untouched { IsList (bytes_of words.now) → (D.seen disk.new ≡ D.seen disk.old) × (D.told disk.new ≡ D.told disk.old) }
-    ensures text { (text : List ℕ) × IsTextOf (bytes_of words.now) (D.seen disk.old) result text × IsTold result text (K.taken to.old) (K.taken to.new) (K.faults to.old) (K.faults to.new) }
+    ensures list_sound { IsList (bytes_of words.now) → IsDone result → IfTold (D.seen disk.old) IsFaultless }
+    ensures text { (IsRun (bytes_of words.now) → ⊥) → (text : List ℕ) × IsTextOf (bytes_of words.now) (D.seen disk.old) result text × IsTold result text (K.taken to.old) (K.taken to.new) (K.faults to.old) (K.faults to.new) }
+
+    // What a run of a script answers, what it writes, and what a crash at any moment leaves.
+    ensures run { IsRun (bytes_of words.now) → (text : List ℕ) × IsTold result text (K.taken to.old) (K.taken to.new) (K.faults to.old) (K.faults to.new)
+        × IsRunAnswer (record { left = S.left from.old; faults = S.faults from.old }) (record { left = S.left from.new; faults = S.faults from.new })
+        (outside (D.seen disk.old) (D.told disk.old) (K.taken to.old) (D.faults disk.old) (K.faults to.old)) (outside (D.seen disk.new) (D.told disk.new) (K.taken to.new) (D.faults disk.new) (K.faults to.new)) result text }
 
     // What is on the disk once a volume was made, and what a crash at any moment leaves.
     ensures stands { IsAnyMkfs (bytes_of words.now) → IsDone result → IfTold (D.seen disk.new) (λ image. Stands image (bare_volume 1)) }
     ensures superblock { IsAnyMkfs (bytes_of words.now) → IsDone result → IfTold (D.seen disk.new) (HasSuperAsked (bytes_of words.now)) }
-    ensures crash { CrashLeaves (D.told disk.old) (D.told disk.new) IsOldOrBare }
+    ensures crash { (IsRun (bytes_of words.now) → ⊥) → CrashLeaves (D.told disk.old) (D.told disk.new) IsOldOrBare }
 
     ensures size { D.count disk.new ≡ D.count disk.old }
+    ensures source_counted { S.faults from.old ≤ S.faults from.new }
     ensures disk_counted { D.faults disk.old ≤ D.faults disk.new }
     ensures sink_counted { K.faults to.old ≤ K.faults to.new }
 {
-    if is_list(words) {
+    if is_only(words, "list") {
         return list(alloc, to, disk);
+    }
+    if is_only(words, "run") {
+        return run(alloc, from, to, disk);
     }
     let status = execute(alloc, words, disk);
     match status {
@@ -68,12 +89,12 @@ pub fn drive<S: Source, K: Sink, D: Disk>(
     }
 }
 
-/// Whether the words are the command `list`.
-fn is_list(words: &[String]) -> bool
-    ensures { IsTrue result ↔ IsList (bytes_of words.now) }
+/// Whether the words are this one alone.
+fn is_only(words: &[String], word: &str) -> bool
+    ensures { IsTrue result ↔ (bytes_of words.now ≡ word.now ∷ []) }
 {
     match words {
-        [command] => command.as_str() == "list",
+        [command] => command.as_str() == word,
         _ => false,
     }
 }
@@ -84,7 +105,7 @@ fn execute<D: Disk>(alloc: Global, words: &[String], disk: &mut D) -> Status
     ensures range { (result ≡ Status.MkfsRange) ↔ IsOutOfRange (bytes_of words.now) (D.count disk.old) }
     ensures disk_fault { (result ≡ Status.DiskFault) → HasRisen (D.faults disk.old) (D.faults disk.new) }
     ensures no_text { result ≢ Status.WriteFault }
-    ensures no_list { (fault : MountFault) → result ≢ Status.NoVolume fault }
+    ensures no_other { IsOfMkfs result }
     ensures untouched { (result ≡ Status.Usage) ⊎ (result ≡ Status.MkfsRange) ⊎ (result ≡ Status.Memory) → disk.new ≡ disk.old }
     ensures stands { (result ≡ Status.Done) → IfTold (D.seen disk.new) (λ image. Stands image (bare_volume 1)) }
     ensures superblock { (result ≡ Status.Done) → IfTold (D.seen disk.new) (HasSuperAsked (bytes_of words.now)) }
@@ -102,7 +123,7 @@ fn execute<D: Disk>(alloc: Global, words: &[String], disk: &mut D) -> Status
 
 /// Makes the volume that the three words of `mkfs` ask for.
 fn make<D: Disk>(alloc: Global, fsid: &str, blocks: &str, subs: &str, disk: &mut D) -> Status
-    ensures command { (result ≢ Status.Usage) × (result ≢ Status.WriteFault) × ((fault : MountFault) → result ≢ Status.NoVolume fault) }
+    ensures command { (result ≢ Status.Usage) × (result ≢ Status.WriteFault) × IsOfMkfs result }
     ensures range { (result ≡ Status.MkfsRange) ↔ (AreInRange (D.count disk.old) fsid.now blocks.now subs.now → ⊥) }
     ensures disk_fault { (result ≡ Status.DiskFault) → HasRisen (D.faults disk.old) (D.faults disk.new) }
     ensures untouched { (result ≡ Status.MkfsRange) ⊎ (result ≡ Status.Memory) → disk.new ≡ disk.old }

@@ -4,9 +4,8 @@ ghost use Rattle.std.specs.Fmt.{decimal};
 ghost use Rattle.io_edge.specs.Edge.{Takes, TakesFront, HasCause};
 ghost use Rattle.script_runner.specs.Faults.{super_word, block_word, load_words, fault_line};
 
-use crate::text::put_all;
 use blk_base::{Addr, BlockFault, SuperFault};
-use io_edge::{Sink, SinkFailed};
+use io_edge::{Sink, SinkFailed, put_all};
 use itoa::Buffer;
 use mount_volume::MountFault;
 use volume_image::LoadFault;

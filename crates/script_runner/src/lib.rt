@@ -8,16 +8,16 @@ mod fault_text;
 mod list;
 #[cfg(test)]
 mod list_tests;
-mod make;
 mod request;
+mod run;
+#[cfg(test)]
+mod run_tests;
 mod status;
 #[cfg(test)]
 mod tests;
 mod text;
-mod volume_blocks;
 mod words;
 
 pub use command::drive;
-pub use make::{MkfsFault, mkfs};
 pub use request::blocks_asked;
 pub use status::Status;

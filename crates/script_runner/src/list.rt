@@ -3,7 +3,8 @@ ghost use Rattle.std.specs.Prelude.{◌≡◌, ◌≢◌, ◌≤◌, ◌⊎◌, 
 ghost use Rattle.disk_model.specs.Disk.{IfTold};
 ghost use Rattle.flat_model.specs.Volume.{volume_of};
 ghost use Rattle.mount_volume.specs.declared.fault.MountFault.{MountFault};
-ghost use Rattle.script_runner.specs.Commands.{HasOneLeaf, HasRisen, IsFaultOf, IsListAnswer, IsListText, IsTold, status_of};
+ghost use Rattle.mount_volume.specs.Answer.{HasRisen};
+ghost use Rattle.script_runner.specs.Commands.{HasOneLeaf, IsDone, IsFaultOf, IsFaultless, IsOfList, IsListAnswer, IsListText, IsTold, status_of};
 
 use crate::Status;
 use crate::answer::answer;
@@ -15,7 +16,7 @@ use std::alloc::Global;
 use volume_listing::{ListFault, write_listing};
 
 /// The answer to a fault of a mount.
-fn status_of(fault: MountFault) -> Status
+pub(crate) fn status_of(fault: MountFault) -> Status
     ensures { result ≡ status_of fault }
 {
     match fault {
@@ -41,13 +42,14 @@ fn print<K: Sink>(alloc: Global, volume: &FlatVolume, to: &mut K) -> Status
 
 /// Writes the listing of the volume on the disk, or the line of why it can't be mounted.
 pub(crate) fn list<K: Sink, D: Disk>(alloc: Global, to: &mut K, disk: &mut D) -> Status
-    ensures command { (result ≢ Status.Usage) × (result ≢ Status.MkfsRange) }
+    ensures command { IsOfList result }
     ensures no_volume { (fault : MountFault) → (result ≡ Status.NoVolume fault) → IsFaultOf (D.seen disk.old) fault }
     ensures disk_fault { (result ≡ Status.DiskFault) → HasRisen (D.faults disk.old) (D.faults disk.new) }
     ensures write_fault { (result ≡ Status.WriteFault) → HasRisen (K.faults to.old) (K.faults to.new) }
     ensures complete { IfTold (D.seen disk.old) (λ image. HasOneLeaf image
         → (HasRisen (D.faults disk.old) (D.faults disk.new) → ⊥) → (HasRisen (K.faults to.old) (K.faults to.new) → ⊥) → (result ≡ Status.Done) ⊎ (result ≡ Status.Memory)) }
 
+    ensures sound { IsDone result → IfTold (D.seen disk.old) IsFaultless }
     ensures text { (text : List ℕ) × IsListText (D.seen disk.old) result text × IsTold result text (K.taken to.old) (K.taken to.new) (K.faults to.old) (K.faults to.new) }
     ensures seen { D.seen disk.new ≡ D.seen disk.old }
     ensures told { D.told disk.new ≡ D.told disk.old }

@@ -1,6 +1,7 @@
 ghost use Rattle.std.specs.Prelude.{◌≡◌};
 
 use crate::tests::{FSID, ListDisk, run};
+use blk_base::{Block, crc32c, put_u32, put_u64};
 use disk_memory::NeverFails;
 use disk_model::{Disk, DiskFailed};
 use io_edge::MemorySink;
@@ -69,5 +70,58 @@ fn a_sink_that_fails_ends_a_listing(rt: HostRuntime) -> Result<(), Fail> {
     let mut to = MemorySink::new(rt.alloc(), &[1])?;
     assert_eq!(rt; run(rt.alloc(), &["list"], &mut disk, &mut to)?, 6);
     assert_eq!(rt; to.bytes().len(), 0);
+    Ok(())
+}
+
+/// What a `list` writes about a disk with this superblock, whose sum is made anew.
+fn listed(alloc: Global, superblock: &mut Block) -> Result<MemorySink, Fail> {
+    let sum = crc32c(&superblock[32..]);
+    put_u32(superblock, 0, sum);
+    let mut disk = made(alloc)?;
+    if disk.blocks() <= 16 || disk.write_super(superblock).is_err() {
+        return Err(Fail::from("no superblock"));
+    }
+    let mut to = MemorySink::new(alloc, &[])?;
+    run(alloc, &["list"], &mut disk, &mut to)?;
+    Ok(to)
+}
+
+/// The superblock of an empty volume of 4096 blocks.
+fn superblock(alloc: Global) -> Result<Block, Fail> {
+    let mut disk = made(alloc)?;
+    let mut block = [0; 4096];
+    if disk.blocks() <= 16 || disk.read(16, &mut block).is_err() {
+        return Err(Fail::from("no superblock"));
+    }
+    Ok(block)
+}
+
+#[test]
+fn other_images_are_named(rt: HostRuntime) -> Result<(), Fail> {
+    let alloc = rt.alloc();
+    let mut noise = [0; 4096];
+    for place in 0..4096 {
+        noise[place] = (place * place % 251) as u8;
+    }
+    assert_eq!(rt;
+        listed(alloc, &mut noise)?.bytes(),
+        b"volume super magic\n".as_slice()
+    );
+
+    // As `mkfs.btrfs` has it: without the mark of the profile, bit 63 of the incompatible features.
+    let mut foreign = superblock(alloc)?;
+    foreign[0xc3] = 0;
+    assert_eq!(rt;
+        listed(alloc, &mut foreign)?.bytes(),
+        b"volume super foreign\n".as_slice()
+    );
+
+    // Of 8192 blocks, on a disk of 4096.
+    let mut short = superblock(alloc)?;
+    put_u64(&mut short, 0x70, 8192 * 4096);
+    assert_eq!(rt;
+        listed(alloc, &mut short)?.bytes(),
+        b"volume super size\n".as_slice()
+    );
     Ok(())
 }

@@ -2,8 +2,8 @@ ghost use Rattle.std.specs.Prelude.{◌≤◌, ℕ, IfSome, IsNone};
 ghost use Rattle.script_runner.specs.Words.{IsNumber};
 ghost use Rattle.script_runner.specs.Commands.{AreInRange, AsksForBlocks, Says, bytes_of};
 
-use crate::make::{LEAST_BLOCKS, MOST_BLOCKS};
 use crate::words::{number, uuid_bytes};
+use mount_volume::{LEAST_BLOCKS, MOST_BLOCKS};
 
 /// The most subvolumes of a volume.
 const MOST_SUBS: u32 = 16;

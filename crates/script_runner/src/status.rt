@@ -2,6 +2,7 @@ ghost use Rattle.std.specs.Prelude.{◌≡◌};
 ghost use Rattle.script_runner.specs.Commands.{code_of};
 
 use mount_volume::MountFault;
+use script_text::ScriptKind;
 
 /// How a command ended.
 #[derive(Clone, Copy, Debug, PartialEq, Eq)]
@@ -10,10 +11,14 @@ pub enum Status {
     Done,
     /// The words are no command.
     Usage,
+    /// The script has this fault, the first, on this line, counted from 1.
+    BadScript { line: u32, kind: ScriptKind },
     /// The disk has no volume that can be mounted.
     NoVolume(MountFault),
     /// The disk failed.
     DiskFault,
+    /// The source failed, or has more than 16 MiB. `taken`: the bytes that it gave.
+    ReadFault { taken: u64 },
     /// The sink failed.
     WriteFault,
     /// No memory.
@@ -30,8 +35,10 @@ impl Status {
         match self {
             Status::Done => 0,
             Status::Usage => 1,
+            Status::BadScript { .. } => 2,
             Status::NoVolume(_) => 3,
             Status::DiskFault => 4,
+            Status::ReadFault { .. } => 5,
             Status::WriteFault => 6,
             Status::Memory => 7,
             Status::MkfsRange => 8,

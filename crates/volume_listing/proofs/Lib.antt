@@ -1,5 +1,4 @@
 pub mod Texts
-pub mod Sinks
 pub mod Places
 pub mod Ways
 pub mod Shown

@@ -7,10 +7,10 @@
 mod lines;
 mod listing;
 mod order;
-mod sink;
 #[cfg(test)]
 mod tests;
 mod text;
 mod walk;
 
 pub use listing::{ListFault, write_listing};
+pub use text::{hex_digit, is_plain};

@@ -9,12 +9,11 @@ ghost use Rattle.volume_listing.specs.Listing.{part_of, count_of, done_line, lis
 ghost use Rattle.volume_listing.specs.Parts.{part_at, count_at};
 
 use crate::lines::put_lines;
-use crate::sink::put;
 use crate::text::put_number;
 use blk_base::OutOfMemory;
 use flat_sub::FlatSub;
 use flat_volume::FlatVolume;
-use io_edge::{Sink, SinkFailed};
+use io_edge::{Sink, SinkFailed, put};
 use std::alloc::Global;
 use thiserror::Error;
 

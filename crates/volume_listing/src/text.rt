@@ -1,13 +1,13 @@
 //! Bytes and numbers as text.
 ghost use Rattle.std.specs.Prelude.{◌≡◌, ◌<◌, ◌++◌, OnOk, IfOk, false};
 ghost use Rattle.std.specs.Fmt.{decimal, digit_glyph};
-ghost use Rattle.volume_listing.specs.Listing.{hex_pair, printed_byte, printed, hex8, word};
+ghost use Rattle.volume_listing.specs.Listing.{is_plain, hex_pair, printed_byte, printed, hex8, word};
 
 use blk_base::{OutOfMemory, Text};
 use std::alloc::Global;
 
-/// The hexadecimal digit of a number below 16, lower case.
-fn digit(value: u8) -> u8
+/// The hexadecimal digit of a number below 16, lower case (own).
+pub fn hex_digit(value: u8) -> u8
     requires { value < 16 }
     ensures { result ≡ digit_glyph false value }
 {
@@ -22,8 +22,8 @@ fn digit(value: u8) -> u8
 fn put_hex(text: &mut Vec<u8>, byte: u8) -> Result<(), OutOfMemory>
     ensures { OnOk result (text.new.items ≡ text.old.items ++ hex_pair byte) }
 {
-    text.push(digit(byte / 16))?;
-    text.push(digit(byte % 16))?;
+    text.push(hex_digit(byte / 16))?;
+    text.push(hex_digit(byte % 16))?;
     Ok(())
 }
 
@@ -37,11 +37,18 @@ pub(crate) fn put_sum(text: &mut Vec<u8>, sum: u32) -> Result<(), OutOfMemory>
     put_hex(text, (sum % 256) as u8)
 }
 
+/// Whether a byte is printed as itself: 0x21 to 0x7e, but the backslash (own).
+pub fn is_plain(byte: u8) -> bool
+    ensures { result ≡ is_plain byte }
+{
+    0x21 <= byte && byte <= 0x7e && byte != b'\\'
+}
+
 /// Adds a byte as it is printed.
 fn put_byte(text: &mut Vec<u8>, byte: u8) -> Result<(), OutOfMemory>
     ensures { OnOk result (text.new.items ≡ text.old.items ++ printed_byte byte) }
 {
-    if 0x21 <= byte && byte <= 0x7e && byte != b'\\' {
+    if is_plain(byte) {
         text.push(byte)?;
         return Ok(());
     }

@@ -6,6 +6,12 @@ use Rattle.mount_volume.proofs.Told.{at_ok}
 use Rattle.mount_volume.proofs.Walks.{super_fails}
 use Rattle.mount_volume.proofs.blocks.read_super.Goals as goal
 
+pub returns-in-Ok-clause-least : goal.returns-in-Ok-clause-least
+returns-in-Ok-clause-least g c = (IsSuper-from_read c.read_super_block.new.into c.blocks-2.result (super_view c.in-Ok.superblock) (sym c.in-Ok.ensures)).smallest
+
+pub returns-in-Ok-clause-most : goal.returns-in-Ok-clause-most
+returns-in-Ok-clause-most g c = (IsSuper-from_read c.read_super_block.new.into c.blocks-2.result (super_view c.in-Ok.superblock) (sym c.in-Ok.ensures)).greatest
+
 pub returns-in-Ok-clause-on_disk : goal.returns-in-Ok-clause-on_disk
 returns-in-Ok-clause-on_disk g c =
     let most = (IsSuper-from_read c.read_super_block.new.into c.blocks-2.result (super_view c.in-Ok.superblock) (sym c.in-Ok.ensures)).on_disk in

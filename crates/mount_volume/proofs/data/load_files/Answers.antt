@@ -1,6 +1,18 @@
-use Rattle.std.proofs.Common.{◌∙◌, arith}
+use Rattle.std.proofs.Common.{◌≤◌, length, refl, ◌∙◌, arith}
 use Rattle.mount_volume.proofs.Files.{files_step, told_at}
+use Rattle.mount_volume.proofs.Putting.{all_put, none_put, put_next, told_none}
 use Rattle.mount_volume.proofs.data.load_files.Goals as goal
+
+pub loop-file-init : goal.loop-file-init
+loop-file-init g c = record {
+  alone = c.requires.lone;
+  size = refl;
+  seen = refl;
+  told = refl;
+  counted = omega arith;
+  rest = told_none (g.D.Disk.seen c.args.disk.now) c.args.files.now c.args.volume.now;
+  before = none_put c.args.files.now c.args.volume.now;
+}
 
 pub loop-file-preserved : goal.loop-file-preserved
 loop-file-preserved g c =
@@ -14,4 +26,10 @@ loop-file-preserved g c =
       counted = let one = before.counted in let two = after.counted in omega arith;
       rest = files_step (g.D.Disk.seen c.args.disk.now) c.args.files.now c.loop-file.file-index _ c.args.volume.now c.loop-file.volume c.load_file.new.volume c.loop-file-test.true
           (told_at _ before.seen after.ok) before.rest;
+      before = put_next c.args.files.now c.loop-file.file-index _ c.args.volume.now c.loop-file.volume c.load_file.new.volume c.loop-file-test.true c.requires.own_blocks after.put before.before;
     }
+
+pub returns-clause-put : goal.returns-clause-put
+returns-clause-put g c =
+    let past : length c.args.files.now ≤ c.loop-file.file-index = let test = c.loop-file-test.false in omega arith in
+    all_put c.args.files.now c.loop-file.file-index c.args.volume.now c.loop-file.volume past c.loop-file.invariant.alone c.loop-file.invariant.before

@@ -2,6 +2,7 @@ use Rattle.std.proofs.Common.{◌≡◌, ◌≤◌, drop}
 use Rattle.disk_model.specs.Disk.{IfTold}
 use Rattle.leaf_items.specs.Candidate.{IsLone, run_of, with_files}
 use Rattle.volume_image.specs.Stands.{data_of}
+use Rattle.mount_volume.proofs.Putting.{ArePutBefore}
 use Rattle.mount_volume.proofs.data.load_files.Given as goal
 
 abbrev pub invariant-loop-file : goal.invariant-loop-file
@@ -12,4 +13,5 @@ invariant-loop-file g l = record {
   told : g.D.Disk.told l.disk ≡ g.D.Disk.told l.fn.disk;
   counted : g.D.Disk.faults l.fn.disk ≤ g.D.Disk.faults l.disk;
   rest : IfTold (g.D.Disk.seen l.fn.disk) (λ image. with_files (data_of image) (drop l.file-index l.files) (run_of l.volume) ≡ with_files (data_of image) l.files (run_of l.fn.volume));
+  before : ArePutBefore l.files l.file-index l.fn.volume l.volume;
 }

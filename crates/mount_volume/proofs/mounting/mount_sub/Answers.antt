@@ -1,10 +1,13 @@
 use Rattle.std.proofs.Common.{subst, sym, ◌∙◌, arith}
 use Rattle.std.proofs.lemmas.Bool.{false≢true}
+use Rattle.format_laws.specs.Blocks.{IsLeafBody-from_read}
 use Rattle.volume_format.specs.Views.{root_view, super_view}
 use Rattle.mount_volume.specs.Answer.{IsToldFault, addresses_of}
 use Rattle.mount_volume.specs.Reading.{IsSoundReach}
 use Rattle.mount_volume.proofs.Files.{files_inside, told_at}
-use Rattle.mount_volume.proofs.Refusals.{handed_on, leaf_failed, looked_at, no_blocks, unsound, other_leaf, all_mounted, no_addresses, some_addresses, whole_reach, data_sound}
+use Rattle.mount_volume.proofs.OwnBlocks.{body_rises, own_blocks}
+use Rattle.mount_volume.proofs.Volumes.{is_ready}
+use Rattle.mount_volume.proofs.Refusals.{handed_on, leaf_failed, looked_at, no_blocks, unsound, other_leaf, all_mounted, no_addresses, some_addresses, whole_reach, data_once, data_sound, told_whole}
 use Rattle.mount_volume.proofs.mounting.mount_sub.Goals as goal
 
 pub returns-in_err-read_leaf-clause-fault : goal.returns-in_err-read_leaf-clause-fault
@@ -35,14 +38,23 @@ returns-then-not-is_sound_reach-clause-fault g c =
     (whole_reach c.args.superblock.root c.args.root.at c.deref.result.now c.in-Some.data.items c.in_ok-reach.reach.items items c.in_ok-reach.ensures c.deref.ensures.value found.1)
     (λ s. false≢true (sym c.if-not-is_sound_reach.true ∙ c.is_sound_reach.ensures.1 (subst (λ xs. IsSoundReach c.args.superblock.blocks (addresses_of xs)) (sym c.deref-2.ensures.value) s)))
 
-pub load_volume-requires : goal.load_volume-requires
-load_volume-requires g c =
+pub load_volume-requires-clause-inside : goal.load_volume-requires-clause-inside
+load_volume-requires-clause-inside g c =
     let items = c.of_body-leaf.result in
     let found = some_addresses items c.in_ok-data.field-0 c.in-Some.data c.in-Some.is c.in_ok-data.ensures in
     let is = whole_reach c.args.superblock.root c.args.root.at c.deref.result.now c.in-Some.data.items c.in_ok-reach.reach.items items c.in_ok-reach.ensures c.deref.ensures.value found.1 in
     let sound = subst (λ xs. IsSoundReach c.args.superblock.blocks (addresses_of xs)) c.deref-2.ensures.value (c.is_sound_reach.ensures.0 c.if-not-is_sound_reach.false) in
     files_inside items c.args.superblock.blocks (g.D.Disk.count c.read_leaf.new.disk) found.0 (data_sound c.args.superblock.blocks c.args.superblock.root.0 c.args.root.at.0 (addresses_of c.in_ok-reach.reach.items) items is sound)
     (let all = c.requires.on_disk in let same = c.in_ok-read_leaf.ensures.size in omega arith)
+
+pub load_volume-requires-clause-own_blocks : goal.load_volume-requires-clause-own_blocks
+load_volume-requires-clause-own_blocks g c =
+    let items = c.of_body-leaf.result in
+    let found = some_addresses items c.in_ok-data.field-0 c.in-Some.data c.in-Some.is c.in_ok-data.ensures in
+    let is = whole_reach c.args.superblock.root c.args.root.at c.deref.result.now c.in-Some.data.items c.in_ok-reach.reach.items items c.in_ok-reach.ensures c.deref.ensures.value found.1 in
+    let sound = subst (λ xs. IsSoundReach c.args.superblock.blocks (addresses_of xs)) c.deref-2.ensures.value (c.is_sound_reach.ensures.0 c.if-not-is_sound_reach.false) in
+    own_blocks items found.0 (data_once c.args.superblock.root.0 c.args.root.at.0 c.args.superblock.blocks (addresses_of c.in_ok-reach.reach.items) items is sound)
+    (body_rises c.read_leaf.new.into items (IsLeafBody-from_read c.read_leaf.new.into items c.of_body-leaf.ensures))
 
 pub returns-then-not-is_leaf_of-clause-fault : goal.returns-then-not-is_leaf_of-clause-fault
 returns-then-not-is_leaf_of-clause-fault g c =
@@ -69,3 +81,17 @@ returns-clause-stands g c =
     (subst (λ xs. IsSoundReach c.args.superblock.blocks (addresses_of xs)) c.deref-2.ensures.value (c.is_sound_reach.ensures.0 c.if-not-is_sound_reach.false))
     (told_at _ c.in_ok-read_leaf.ensures.seen c.in_ok-volume.ensures.ok)
     (c.is_leaf_of.ensures.0 c.if-not-is_leaf_of.false)
+
+pub returns-clause-whole : goal.returns-clause-whole
+returns-clause-whole g c =
+    told_whole (g.D.Disk.seen c.args.disk.now) (record { superblock = c.args.superblock; volume = c.in_ok-volume.volume; reach = c.in_ok-reach.reach }) (super_view c.args.superblock) (root_view c.args.root)
+    c.requires.leads (returns-clause-stands g c)
+
+pub returns-clause-ready : goal.returns-clause-ready
+returns-clause-ready g c =
+    let items = c.of_body-leaf.result in
+    let found = some_addresses items c.in_ok-data.field-0 c.in-Some.data c.in-Some.is c.in_ok-data.ensures in
+    is_ready (record { superblock = c.args.superblock; volume = c.in_ok-volume.volume; reach = c.in_ok-reach.reach }) (g.D.Disk.count c.args.disk.now) c.args.superblock.root.0 c.args.root.at.0 c.read_leaf.new.into items
+    c.read_leaf.array_long c.of_body-leaf.ensures found.0
+    (whole_reach c.args.superblock.root c.args.root.at c.deref.result.now c.in-Some.data.items c.in_ok-reach.reach.items items c.in_ok-reach.ensures c.deref.ensures.value found.1)
+    c.in_ok-volume.ensures.built (c.is_leaf_of.ensures.0 c.if-not-is_leaf_of.false) c.requires.least c.requires.most c.requires.on_disk

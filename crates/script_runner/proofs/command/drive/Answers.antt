@@ -1,13 +1,30 @@
-use Rattle.std.proofs.Common.{refl, sym, subst, Option}
+use Rattle.std.proofs.Common.{refl, sym, ◌∙◌, subst, inl, inr, Option}
+use Rattle.std.proofs.lemmas.Bool.{false≢true}
 use Rattle.disk_model.specs.Disk.{Told}
-use Rattle.script_runner.specs.Mkfs.{CrashLeaves, IsOldOrBare}
-use Rattle.script_runner.proofs.VolumeLemmas.{crash_same}
+use Rattle.mount_volume.specs.Mkfs.{CrashLeaves, IsOldOrBare}
+use Rattle.mount_volume.proofs.MkfsBlocks.{crash_same}
+use Rattle.script_runner.specs.Commands.{bytes_of, made_line}
+use Rattle.script_runner.proofs.AnswerLemmas.{made_text}
+use Rattle.script_runner.proofs.RunLemmas.{run_complete, run_no_volume}
 use Rattle.script_runner.proofs.command.drive.Goals as goal
 
-pub returns-then-is_list-clause-no_volume : goal.returns-then-is_list-clause-no_volume
-returns-then-is_list-clause-no_volume g c = λ fault is. (c.if-is_list.ensures.0 refl, c.list.ensures.no_volume fault is)
+pub returns-then-is_only-clause-no_volume : goal.returns-then-is_only-clause-no_volume
+returns-then-is_only-clause-no_volume g c = λ fault is. (inl (c.if-is_only.ensures.0 refl), c.list.ensures.no_volume fault is)
 
-pub returns-then-is_list-clause-crash : goal.returns-then-is_list-clause-crash
-returns-then-is_list-clause-crash g c =
+pub returns-then-is_only-clause-crash : goal.returns-then-is_only-clause-crash
+returns-then-is_only-clause-crash g c = λ other.
     let told = g.D.Disk.told c.args.disk.now in
     subst (λ (after : Option Told). CrashLeaves told after IsOldOrBare) (sym c.list.ensures.told) (crash_same told)
+
+pub returns-then-is_only-2-clause-no_volume : goal.returns-then-is_only-2-clause-no_volume
+returns-then-is_only-2-clause-no_volume g c = λ fault is. (inr (c.if-is_only-2.ensures.0 refl), run_no_volume _ _ _ _ c.run.result c.run.ensures.answer.0 fault c.run.ensures.answer.2 is)
+
+pub returns-in-Done-clause-text : goal.returns-in-Done-clause-text
+returns-in-Done-clause-text g c = λ other.
+    let words = bytes_of c.args.words.now in
+    (made_line words, made_text words (g.D.Disk.seen c.args.disk.now) c.tell_made.result c.tell_made.ensures.answer (λ list. false≢true (sym c.if-is_only.false ∙ c.is_only.ensures.1 list)), c.tell_made.ensures.text)
+
+pub returns-then-is_only-2-clause-run_complete : goal.returns-then-is_only-2-clause-run_complete
+returns-then-is_only-2-clause-run_complete g c = λ _.
+    let disk = c.args.disk.now in
+    run_complete _ _ (g.D.Disk.seen disk) (g.D.Disk.told disk) (g.K.Sink.taken c.args.to.now) (g.D.Disk.faults disk) (g.K.Sink.faults c.args.to.now) _ c.run.result c.run.ensures.answer.0 c.run.ensures.answer.2

@@ -1,7 +1,7 @@
 use Rattle.std.proofs.Common.{ℕ, List, sym, subst}
 use Rattle.std.specs.Cmp.Lexicographic.{same_text}
 use Rattle.script_runner.specs.Mkfs.{HasSuperAsked, HasSuperOf}
-use Rattle.script_runner.proofs.VolumeLemmas.{crash_same}
+use Rattle.mount_volume.proofs.MkfsBlocks.{crash_same}
 use Rattle.script_runner.proofs.CommandLemmas.{if_told_weaker, is_mkfs, out_of_range}
 use Rattle.script_runner.proofs.command.execute.Goals as goal
 

@@ -1,8 +1,9 @@
 use Rattle.std.proofs.Common.{◌≡◌, refl}
 use Rattle.blk_base.specs.Superblock.{super_bytes}
 use Rattle.volume_image.specs.Stands.{super_block}
-use Rattle.script_runner.specs.Mkfs.{HasSuperOf, made_super}
-use Rattle.script_runner.proofs.VolumeLemmas.{crash_same}
+use Rattle.mount_volume.specs.Mkfs.{made_super}
+use Rattle.script_runner.specs.Mkfs.{HasSuperOf}
+use Rattle.mount_volume.proofs.MkfsBlocks.{crash_same}
 use Rattle.script_runner.proofs.CommandLemmas.{if_told_weaker}
 use Rattle.script_runner.proofs.command.make.Goals as goal
 

@@ -1,0 +1,4 @@
+pub mod Operations
+pub mod Syncs
+pub mod Begins
+pub mod Calls

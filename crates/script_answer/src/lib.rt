@@ -1,0 +1,14 @@
+//! The text of a script's run: a line for each call that has finished, and a last line.
+//!
+//! `specs/Words.antt` has the text, byte for byte.
+#![tactic(auto)]
+
+mod answer;
+mod bytes;
+mod line;
+#[cfg(test)]
+mod tests;
+mod words;
+
+pub use answer::FirstAnswer;
+pub use line::{put_answer, put_done};
