@@ -1,3 +1,4 @@
 pub mod CrcLemmas
 pub mod CrcTables
 pub mod NameLemmas
+pub mod AddressLemmas
