@@ -1,5 +1,5 @@
 -- The test of an address decides whether a volume may use it.
-use Rattle.std.proofs.Common.{◌≡◌, ◌/◌, ◌%◌, ◌↔◌, ◌&&◌, ◌==◌, not, nat_lt, nat_le, ℕ, true, IsTrue}
+use Rattle.std.proofs.Common.{◌≡◌, ◌↔◌, ℕ, true, IsTrue}
 use Rattle.std.proofs.lemmas.Bool.{and_parts, and_from, eqb-true, eqb-false, ltb-true, leb-true, lt-ltb, le-leb, eq-eqb, ne_eqb, not-true, not_from_false}
 use Rattle.blk_base.specs.Address.{IsAllowed, is_allowed}
 

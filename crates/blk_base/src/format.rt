@@ -1,3 +1,4 @@
+//! The numbers of the Btrfs on-disk format; the section that each is of stands behind it in quotes.
 use crate::key::SubId;
 
 // ---- blocks

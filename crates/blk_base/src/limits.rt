@@ -1,3 +1,4 @@
+//! Limits that this project chose.
 // ---- volumes
 
 /// The fewest blocks of a volume, of 4096 bytes each (own).
