@@ -1,13 +1,13 @@
--- Trees whose blocks stand in a table of blocks, and what an edit of one may change.
+-- Trees whose blocks stand in a table of blocks.
 use Rattle.std.specs.Prelude.{◌≡◌, ◌≢◌, ◌≤◌, ℕ, zero, suc, Bool, true, false, List, [], ◌∷◌, ◌++◌, length, All, Option, Some, None, Contains, if◌then◌else◌}
 use Rattle.blk_base.specs.declared.key.Key.{Key}
 use Rattle.blk_base.specs.declared.key.Want.{Want}
 use Rattle.blk_base.specs.Address.{IsAllowed}
 use Rattle.blk_base.specs.Keys.{KeyBelow}
 use Rattle.blk_base.specs.Leaf.{Item, Pointer, HeaderFits, IsLeafBody, IsNodeBody}
-use Rattle.block_table.specs.declared.state.SlotState.TheVariants.{Free, Dirty, LetGo}
+use Rattle.block_table.specs.declared.state.SlotState.TheVariants.{Free, Dirty}
 use Rattle.block_table.specs.declared.tree.Tree.{Tree}
-use Rattle.block_table.specs.Slot.{BlockSlot, free_slot}
+use Rattle.block_table.specs.Slot.{BlockSlot}
 use Rattle.block_table.specs.Table.{Table, slot_at}
 
 -- the block at a byte address
@@ -68,11 +68,6 @@ pub record IsTreeIn (table : Table) (tree : Tree) (items : List Item) (reach : L
   pub order : ItemsRise items
   pub once : NoneTwice reach
 
--- it is a current tree: no block of it was let go (own)
-pub record IsCurrentTree (table : Table) (tree : Tree) (items : List Item) (reach : List ℕ) : Type 0 where
-  pub tree_in : IsTreeIn table tree items reach
-  pub current : All (λ at. (block_at table at).state ≢ LetGo) reach
-
 -- ---- the headers of its blocks
 
 -- a child is read with its pointer's address and generation, the same owner, and one level less ("Internal Node")
@@ -96,21 +91,3 @@ IsSealedSubtree (suc level) table want =
 abbrev pub IsSealedTree : Table → Tree → List ℕ → ℕ → Type 0
 IsSealedTree table tree fsid generation =
     IsSealedSubtree tree.level table (record { fsid = fsid; at = tree.root; generation = generation; owner = tree.owner; level = tree.level })
-
--- ---- what an edit of a tree may change
-
--- what becomes of a block that the tree has no more: a Dirty one is Free, and another one is LetGo (own)
-pub record IsLeft (old new : BlockSlot) : Type 0 where
-  pub dirty : old.state ≡ Dirty → new ≡ free_slot
-  pub written : old.state ≢ Dirty → new ≡ record old { state = LetGo; stood = None }
-
--- An edit of a tree that reached `before` and then reaches `after`: its new blocks were Free and are Dirty, its old ones are
--- left, those in both keep all but the bytes of a Dirty one, and every other block stays as it was (own).
-pub record IsEdit (old new : Table) (before after : List ℕ) : Type 0 where
-  pub size : length new.slots ≡ length old.slots
-  pub lists : new.lists ≡ old.lists
-  pub fresh : (at : ℕ) → Contains after at → (Contains before at → ⊥) → ((block_at old at).state ≡ Free) × ((block_at new at).state ≡ Dirty)
-  pub left : (at : ℕ) → Contains before at → (Contains after at → ⊥) → IsLeft (block_at old at) (block_at new at)
-  pub kept : (at : ℕ) → Contains before at → Contains after at → block_at new at ≡ record (block_at old at) { bytes = (block_at new at).bytes }
-  pub kept_bytes : (at : ℕ) → Contains before at → Contains after at → (block_at old at).state ≢ Dirty → (block_at new at).bytes ≡ (block_at old at).bytes
-  pub others : (at : ℕ) → (Contains before at → ⊥) → (Contains after at → ⊥) → block_at new at ≡ block_at old at

@@ -7,7 +7,7 @@ use Rattle.blk_base.specs.declared.key.Addr.{Addr}
 use Rattle.block_table.specs.Slot.{BlockSlot, free_slot}
 use Rattle.block_table.specs.Blocks.{AtBlock}
 use Rattle.block_table.specs.Table.{Table, slot_at, with_slot, free_blocks, free_one, free_from, brought_back, all_back}
-use Rattle.block_table.specs.Counts.{free_from-set}
+use Rattle.block_table.proofs.Counts.{free_from-set}
 
 -- the block that was put there
 pub slot_at-with_slot_same : (table : Table) (at : Addr) (slot : BlockSlot) → at.0 % 4096 ≡ 0 → at.0 / 4096 < length table.slots → slot_at (with_slot table at slot) at ≡ slot
