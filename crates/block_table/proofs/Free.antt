@@ -1,10 +1,10 @@
 -- Where a block that is Free may be.
-use Rattle.std.specs.Prelude.{◌≡◌, ◌≢◌, ◌+◌, ◌*◌, ◌/◌, ◌≤◌, ◌<◌, ℕ, List, length, min, ◌⊎◌, Bool, true, false, slice_index_or, slice_set, refl}
+use Rattle.std.specs.Prelude.{◌≡◌, ◌+◌, ◌/◌, ◌≤◌, ◌<◌, ℕ, List, length, min, ◌⊎◌, Bool, true, false, slice_index_or, slice_set, refl}
 use Rattle.std.proofs.Common.{arith, inl, inr, sym, ap, ◌∙◌, subst, zero-add}
-use Rattle.std.proofs.lemmas.Bool.{cases_lt, cases_order}
-use Rattle.std.proofs.lemmas.List.{length-set, get_or-set_same, get_or-set_other, get_or_default}
+use Rattle.std.proofs.lemmas.Bool.{cases_order}
+use Rattle.std.proofs.lemmas.List.{length-set, get_or-set_same, get_or-set_other}
 use Rattle.block_table.specs.Slot.{BlockSlot, free_slot}
-use Rattle.block_table.specs.Table.{NoneFree, IsFirstFree, KnowsFree, is_free_block, free_from}
+use Rattle.block_table.specs.Table.{NoneFree, KnowsFree, is_free_block, free_from}
 use Rattle.block_table.proofs.Counts.{free_from-none}
 
 pub true_isnt_false : true ≡ false → ⊥
@@ -17,29 +17,6 @@ not_true false h = refl
 not_apart : (a b : ℕ) → a ≡ b → (a < b) ⊎ (b < a) → ⊥
 not_apart a b e apart =
     elim apart [ inl less ↦ omega (arith, e, less) | inr more ↦ omega (arith, e, more) ]
-
--- what holds in front of a place and behind it
-pub NoneFree-join : (slots : List BlockSlot) (from middle to : ℕ) → NoneFree slots from middle → NoneFree slots middle to → NoneFree slots from to
-NoneFree-join slots from middle to before behind number above below inside =
-    elim (cases_lt number middle) [ inl less ↦ before number above less inside | inr more ↦ behind number more below inside ]
-
-pub NoneFree-part : (slots : List BlockSlot) (from from' to to' : ℕ) → NoneFree slots from to → from ≤ from' → to' ≤ to → NoneFree slots from' to'
-NoneFree-part slots from from' to to' none more less number above below inside =
-    none number (omega (arith, above, more)) (omega (arith, below, less)) inside
-
--- a group that isn't marked has none
-pub unmarked : {slots : List BlockSlot} {low : ℕ} {groups : List Bool} → KnowsFree slots low groups → (group : ℕ) → slice_index_or groups group false ≡ false → NoneFree slots (256 * group) (256 * group + 256)
-unmarked {slots} {low} {groups} knows group empty number above below inside =
-    let place : number / 256 ≡ group = omega (arith, above, below) in
-    not_true (is_free_block number (slice_index_or slots number free_slot)) (λ free. true_isnt_false (sym (knows.marked number inside free) ∙ subst (λ (g : ℕ). slice_index_or groups g false ≡ false) (sym place) empty))
-
--- the mark of a group that has none goes
-pub cleared : {slots : List BlockSlot} {low : ℕ} {groups : List Bool} → KnowsFree slots low groups → (group : ℕ) → NoneFree slots (256 * group) (256 * group + 256) → KnowsFree slots low (slice_set groups group false)
-cleared {slots} {low} {groups} knows group none = record {
-  below = knows.below;
-  count = length-set groups group false ∙ knows.count;
-  marked = λ number inside free. elim (cases_order (number / 256) group) [ inl same ↦ absurd (true_isnt_false (sym free ∙ none number (omega (arith, same)) (omega (arith, same)) inside)) | inr apart ↦ get_or-set_other groups group (number / 256) false false (λ e. not_apart (number / 256) group e apart) ∙ knows.marked number inside free ];
-}
 
 -- a block that is Free, where another one is replaced, was Free
 other_was : (slots : List BlockSlot) (i number : ℕ) (slot : BlockSlot) → (number ≡ i → ⊥) → is_free_block number (slice_index_or (slice_set slots i slot) number free_slot) ≡ true → is_free_block number (slice_index_or slots number free_slot) ≡ true
@@ -80,19 +57,3 @@ none_at_all slots to none all some =
     let each : (i : ℕ) → i < length slots → is_free_block (0 + i) (slice_index_or slots i free_slot) ≡ false = λ i inside. subst (λ (k : ℕ). is_free_block k (slice_index_or slots i free_slot) ≡ false) (sym (zero-add i)) (none i (omega arith) (omega (arith, inside, all)) inside) in
     let zero : free_from 0 slots ≡ 0 = free_from-none 0 slots each in
     omega (arith, zero, some)
-
--- the first of a part in front of which there is none
-pub first_of_all : {slots : List BlockSlot} {from number : ℕ} → NoneFree slots 0 from → IsFirstFree slots from number → IsFirstFree slots 0 number
-first_of_all {slots} {from} {number} before first = record {
-  inside = first.inside;
-  before = NoneFree-join slots 0 from number before first.before;
-  free = first.free;
-}
-
--- where the search ends is the lowest one
-pub KnowsFree-first : {slots : List BlockSlot} {low number : ℕ} {groups : List Bool} → KnowsFree slots low groups → IsFirstFree slots 0 number → KnowsFree slots number groups
-KnowsFree-first knows first = record {
-  below = first.before;
-  count = knows.count;
-  marked = knows.marked;
-}

@@ -13,7 +13,7 @@ use Rattle.block_table.specs.declared.state.SlotState.TheVariants.{Free, Dirty, 
 use Rattle.blk_base.specs.Address.{IsAllowed}
 use Rattle.block_table.specs.Table.{Table, IsTable, KnowsFree, IsInStock, slot_at, state_at, free_one, used_one, free_from, is_free_block, used_of, all_back, brought_back}
 use Rattle.block_table.proofs.Free.{KnowsFree-set, KnowsFree-freed, true_isnt_false}
-use Rattle.block_table.proofs.Counts.{free_one-taken, free_one-free, free_from-set, free_from-none, used_one-taken, used_one-free, used_of-set}
+use Rattle.block_table.proofs.Counts.{free_one-taken, free_one-free, free_from-set, used_one-taken, used_one-free, used_of-set}
 
 -- an address at which a block of the table begins
 pub record IsFound (table : Table) (at : Addr) : Type 0 where

@@ -1,4 +1,4 @@
-use Rattle.std.proofs.Common.{ap, arith, inl, inr, sym, ◌≡◌, ◌+◌, false}
+use Rattle.std.proofs.Common.{ap, arith, inl, inr, ◌≡◌, ◌+◌, false}
 use Rattle.std.specs.Prelude.{vec_len, vec_capacity}
 use Rattle.block_table.specs.Slot.{BlockSlot, is_free}
 use Rattle.block_table.specs.Table.{Table, state_at}
