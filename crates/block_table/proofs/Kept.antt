@@ -7,7 +7,8 @@ use Rattle.std.proofs.lemmas.List.{length-set, length-append, get_or_past, get_o
 use Rattle.std.proofs.lemmas.List.Elements.{All-append}
 use Rattle.blk_base.specs.declared.key.Addr.{Addr}
 use Rattle.block_table.specs.Slot.{BlockSlot, free_slot, dirty_slot, is_free}
-use Rattle.block_table.specs.Blocks.{AtBlock, BlockList, with_block}
+use Rattle.blk_base.specs.Trees.{AtBlock}
+use Rattle.block_table.specs.Blocks.{BlockList, with_block}
 use Rattle.block_table.specs.declared.state.SlotState.{SlotState}
 use Rattle.block_table.specs.declared.state.SlotState.TheVariants.{Free, Dirty, Sealed, Live, LetGo}
 use Rattle.blk_base.specs.Address.{IsAllowed}

@@ -1,10 +1,12 @@
 -- The blocks of a volume that are in memory, each under its byte address.
 use Rattle.std.specs.Prelude.{◌≡◌, ◌+◌, ◌/◌, ◌%◌, ◌==◌, ◌&&◌, ◌<◌, ◌≤◌, ◌^◌, ℕ, List, [], ◌∷◌, length, replicate, All, Bool, true, false, not, nat_le, if◌then◌else◌, slice_index_or, slice_set}
 use Rattle.std.specs.List.{sum_by}
+use Rattle.blk_base.specs.declared.format.TheConstants.{COPY_BLOCK, FIRST_BLOCK}
 use Rattle.blk_base.specs.declared.key.Addr.{Addr}
 use Rattle.block_table.specs.declared.state.SlotState.{SlotState}
 use Rattle.block_table.specs.Slot.{BlockSlot, free_slot, is_free}
-use Rattle.block_table.specs.Blocks.{AtBlock, BlockList}
+use Rattle.blk_base.specs.Trees.{AtBlock}
+use Rattle.block_table.specs.Blocks.{BlockList}
 
 -- the blocks by their numbers from 0, how many buffers are spare, and how many lists are in stock (own)
 pub record Table : Type 0 where
@@ -37,7 +39,7 @@ with_lists table lists = record { slots = table.slots; spare = table.spare; list
 
 -- a block whose number is allowed, and that is Free (own)
 abbrev pub is_free_block : ℕ → BlockSlot → Bool
-is_free_block number slot = nat_le 17 number && not (number == 16384) && is_free slot.state
+is_free_block number slot = nat_le FIRST_BLOCK number && not (number == COPY_BLOCK) && is_free slot.state
 
 abbrev pub free_one : ℕ → BlockSlot → ℕ
 free_one number slot = if is_free_block number slot then 1 else 0

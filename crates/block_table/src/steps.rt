@@ -5,6 +5,7 @@ ghost use Rattle.block_table.specs.Table.{IsFirstFree, IsInStock, KnowsFree, Non
 use crate::blocks::Blocks;
 use crate::slot::{Buffer, Slot};
 use crate::state::SlotState;
+use blk_base::format::{COPY_BLOCK, FIRST_BLOCK};
 use blk_base::{Addr, Block, OutOfMemory};
 use std::alloc::Global;
 
@@ -14,9 +15,9 @@ pub(crate) const GROUP: usize = 256;
 /// Whether a volume may use the block with this number: it isn't in front of the first superblock's end, nor the second
 /// superblock's.
 pub(crate) fn is_usable(number: usize) -> bool
-    ensures { result ≡ (nat_le 17 number && not (number == 16384)) }
+    ensures { result ≡ (nat_le FIRST_BLOCK number && not (number == COPY_BLOCK)) }
 {
-    number >= 17 && number != 16384
+    number >= FIRST_BLOCK as usize && number != COPY_BLOCK as usize
 }
 
 /// One where a volume may use the block with this number, for a count of those that are Free.

@@ -12,10 +12,9 @@ use crate::blocks::Blocks;
 use crate::slot::{Buffer, Slot};
 use crate::state::SlotState;
 use crate::steps::{
-    GROUP, add_buffers, all_groups, count_usable, empty_lists, find_free, free_slots, is_usable,
-    return_all,
+    GROUP, add_buffers, all_groups, count_usable, empty_lists, find_free, free_slots, return_all,
 };
-use blk_base::{Addr, Block, OutOfMemory};
+use blk_base::{Addr, Block, OutOfMemory, is_allowed};
 use std::alloc::Global;
 use std::marker::Model;
 use std::mem::replace;
@@ -89,8 +88,7 @@ impl BlockTable {
     pub fn is_allowed(&self, at: Addr) -> bool
         ensures { IsTrue result ↔ IsAllowed (length self.now.slots) at.0 }
     {
-        let number = number_of(at);
-        at.0 % 4096 == 0 && number < self.slots.len() && is_usable(number)
+        is_allowed(self.blocks(), at)
     }
 
     /// How many blocks are Free and at an address that a volume may use.

@@ -4,7 +4,7 @@ use Rattle.std.specs.Prelude.{All, Contains, ◌==◌, if◌then◌else◌, slic
 use Rattle.std.proofs.lemmas.Bool.{cases_Bool, cases_lt, eqb-true, eq-eqb}
 use Rattle.std.proofs.lemmas.List.Elements.{All-contains, Contains-get_or, Contains-append_cases}
 use Rattle.std.proofs.lemmas.Option.{slice_get-get_or}
-use Rattle.block_table.specs.TreeIn.{NoneTwice}
+use Rattle.blk_base.specs.Trees.{NoneTwice}
 use Rattle.tree_range.specs.Part.{times_in}
 use Rattle.tree_frame.proofs.Members.{in_one, in_tail}
 

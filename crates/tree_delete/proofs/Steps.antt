@@ -7,7 +7,8 @@ use Rattle.blk_base.specs.declared.key.Key.{Key}
 use Rattle.blk_base.specs.Leaf.{Item, Pointer}
 use Rattle.block_table.specs.declared.state.SlotState.TheVariants.{Free, LetGo}
 use Rattle.block_table.specs.Table.{Table}
-use Rattle.block_table.specs.TreeIn.{IsSealedSubtree, IsTaken, ItemsRise, NoneTwice, block_at, first_key}
+use Rattle.blk_base.specs.Trees.{ItemsRise, NoneTwice, first_key}
+use Rattle.block_table.specs.TreeIn.{IsSealedSubtree, IsTaken, block_at}
 use Rattle.tree_range.specs.Shape.{AreAlike, items_below, node_pointers, reach_below}
 use Rattle.tree_range.specs.Between.{AreAbove, AreBelow, data_under}
 use Rattle.tree_range.specs.Part.{times_in}

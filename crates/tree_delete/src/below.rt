@@ -2,8 +2,9 @@ ghost use Rattle.std.specs.Prelude.{◌≡◌, ◌≤◌, ◌+◌, ◌*◌};
 ghost use Rattle.block_table.specs.Table.{free_blocks};
 ghost use Rattle.tree_delete.specs.Rows.{HasItemBelow, IsLessNode};
 
+use blk_base::limits::LEAST_POINTERS;
 use crate::leaf::shrink_leaf;
-use crate::node::{LEAST_POINTERS, change_child, child_place, drop_child};
+use crate::node::{change_child, child_place, drop_child};
 use crate::pair::repair;
 use blk_base::{Addr, Key};
 use block_table::BlockTable;

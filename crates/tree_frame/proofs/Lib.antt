@@ -6,3 +6,4 @@ pub mod Reading
 pub mod OtherTrees
 pub mod Counting
 pub mod Places
+pub mod Sealed

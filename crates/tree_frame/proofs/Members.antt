@@ -3,7 +3,7 @@ use Rattle.std.proofs.Common.{◌≡◌, ◌<◌, ◌⊎◌, ℕ, zero, suc, Lis
 use Rattle.std.specs.Prelude.{Contains, slice_index_or}
 use Rattle.std.proofs.lemmas.Bool.{cases_eq}
 use Rattle.std.proofs.lemmas.List.Elements.{Contains-append_cases, Contains-append_left, Contains-append_right}
-use Rattle.block_table.specs.TreeIn.{NoneTwice}
+use Rattle.blk_base.specs.Trees.{NoneTwice}
 
 pub in_nothing : (at : ℕ) → Contains [] at → ⊥
 in_nothing at h = let inside = h.1 in omega arith
