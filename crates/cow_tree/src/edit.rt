@@ -6,11 +6,11 @@ ghost use Rattle.tree_range.specs.Shape.{IsTree, tree_items, tree_reach};
 ghost use Rattle.tree_frame.specs.Frame.{AreCurrent, IsEdit, TakesAtMost, tree_leaves, with_item};
 ghost use Rattle.cow_tree.specs.Whole.{IsTreeWritten};
 
-use blk_base::format::MOST_ITEM_BYTES;
 use crate::node::node_over;
 use crate::pieces::Pieces;
 use crate::write::write_below;
 use blk_base::Key;
+use blk_base::format::MOST_ITEM_BYTES;
 use block_table::{BlockTable, Tree};
 
 /// Puts an item into a tree, in place of the one of its key, where there is one. Where two or three blocks then stand in

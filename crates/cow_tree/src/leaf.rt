@@ -12,9 +12,9 @@ ghost use Rattle.cow_tree.specs.Change.{IsChange};
 ghost use Rattle.cow_tree.specs.Pieces.{pointers_of};
 ghost use Rattle.cow_tree.specs.Spread.{IsLeafPiece, IsLeafSpread};
 
-use blk_base::format::{ITEM_HEADER_SIZE, LEAF_BYTES};
 use crate::own::own_block;
 use crate::pieces::Pieces;
+use blk_base::format::{ITEM_HEADER_SIZE, LEAF_BYTES};
 use blk_base::{Addr, Key};
 use block_table::BlockTable;
 use tree_blocks::{

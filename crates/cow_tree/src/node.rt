@@ -10,10 +10,10 @@ ghost use Rattle.cow_tree.specs.Change.{IsChange};
 ghost use Rattle.cow_tree.specs.Pieces.{pointers_of, spliced};
 ghost use Rattle.cow_tree.specs.Spread.{IsNodePiece, IsNodeSpread};
 
-use blk_base::format::MOST_POINTERS;
-use blk_base::limits::{HALF_NODE, LEAST_POINTERS};
 use crate::own::own_block;
 use crate::pieces::Pieces;
+use blk_base::format::MOST_POINTERS;
+use blk_base::limits::{HALF_NODE, LEAST_POINTERS};
 use blk_base::{Addr, Key};
 use block_table::BlockTable;
 use tree_blocks::{

@@ -3,10 +3,10 @@ ghost use Rattle.block_table.specs.Table.{free_blocks};
 ghost use Rattle.cow_tree.specs.Below.{IsWritable, IsWritten};
 ghost use Rattle.cow_tree.specs.Pieces.{pointers_of};
 
-use blk_base::format::{ITEM_HEADER_SIZE, LEAF_BYTES};
 use crate::leaf::write_in_leaf;
 use crate::node::{child_place, write_in_node};
 use crate::pieces::Pieces;
+use blk_base::format::{ITEM_HEADER_SIZE, LEAF_BYTES};
 use blk_base::{Addr, Key};
 use block_table::BlockTable;
 use tree_blocks::node_child;

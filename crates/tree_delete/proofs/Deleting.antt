@@ -27,7 +27,7 @@ use Rattle.tree_delete.specs.Seals.{IsSealedRow, want_of}
 use Rattle.tree_delete.specs.Ahead.{IsBetween, TakesAhead, copies_of, nodes_ahead, row_ahead}
 use Rattle.tree_delete.specs.Rows.{HasItemBelow, IsChildOf, IsLessNode, IsNodeOver, row_items, row_reach}
 use Rattle.tree_delete.specs.Steps.{IsCurrentNode}
-use Rattle.tree_frame.proofs.Members.{in_nothing}
+use Rattle.blk_base.proofs.Members.{in_nothing}
 use Rattle.tree_delete.proofs.Seals.{dirty_leaf_sealed, dirty_node_sealed, sealed_children}
 use Rattle.tree_delete.proofs.Ahead.{dirty_ahead, leaves_ahead, node_ahead, takes_one}
 use Rattle.tree_delete.proofs.Blocks.{node_same}

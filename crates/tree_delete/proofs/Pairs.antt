@@ -27,7 +27,7 @@ use Rattle.tree_blocks.proofs.Orders.{pointer_keys-append}
 use Rattle.tree_frame.specs.Frame.{IsEdit}
 use Rattle.tree_delete.specs.Steps.{IsCurrentNode, IsDirtyPair, IsOwnedPair, IsPair, IsShared}
 use Rattle.tree_frame.proofs.EditLaws.{edits_join}
-use Rattle.tree_frame.proofs.Members.{in_nothing, in_one}
+use Rattle.blk_base.proofs.Members.{in_nothing, in_one}
 use Rattle.tree_frame.proofs.StepLaws.{join_is_an_edit, new_bytes_are_an_edit}
 use Rattle.tree_delete.proofs.Ahead.{takes_one}
 use Rattle.tree_delete.proofs.Blocks.{IsOwned}

@@ -19,7 +19,7 @@ use Rattle.tree_delete.specs.Seals.{IsSealedRow, want_of}
 use Rattle.tree_delete.specs.Ahead.{IsBetween, TakesAhead, nodes_ahead, row_ahead}
 use Rattle.tree_delete.specs.Rows.{HasItemBelow, IsChildOf, row_items, row_leaves, row_reach}
 use Rattle.tree_frame.proofs.EditLaws.{edits_join}
-use Rattle.tree_frame.proofs.Members.{in_nothing}
+use Rattle.blk_base.proofs.Members.{in_nothing}
 use Rattle.tree_frame.proofs.Reading.{reach_taken}
 use Rattle.tree_delete.proofs.Lists.{times_append, none_twice_from, none_twice_to}
 use Rattle.tree_delete.proofs.Edits.{IsCarried, IsWhole, carry}

@@ -11,8 +11,8 @@ ghost use Rattle.tree_frame.specs.Frame.{IsEdit, TakesAtMost};
 ghost use Rattle.tree_delete.specs.Rows.{kept_of};
 ghost use Rattle.tree_delete.specs.Steps.{HasPair, IsDirtyPair, IsEven, IsOwnedPair, IsPair, IsRepaired, IsShared};
 
-use blk_base::format::MOST_POINTERS;
 use blk_base::Addr;
+use blk_base::format::MOST_POINTERS;
 use block_table::{BlockTable, SlotState};
 use tree_blocks::{
     node_child, node_insert, node_join, node_key, node_len, node_remove, node_set_child, own,

@@ -8,9 +8,9 @@ ghost use Rattle.tree_frame.specs.Frame.{AreCurrent, IsEdit, TakesAtMost, tree_l
 ghost use Rattle.tree_delete.specs.Ahead.{IsBetween, TakesAhead, tree_ahead};
 ghost use Rattle.tree_delete.specs.Rows.{IsLessTree};
 
-use blk_base::limits::LEAST_ROOT_POINTERS;
 use crate::below::delete_below;
 use crate::leaf::delete_in_leaf;
+use blk_base::limits::LEAST_ROOT_POINTERS;
 use blk_base::{Addr, Key};
 use block_table::{BlockTable, Tree};
 use tree_blocks::{node_child, node_len};

@@ -9,7 +9,7 @@ use Rattle.blk_base.specs.Trees.{NoneTwice}
 use Rattle.block_table.specs.TreeIn.{IsTaken, block_at}
 use Rattle.tree_range.specs.Shape.{AreAlike}
 use Rattle.tree_frame.specs.Frame.{IsEdit}
-use Rattle.tree_frame.proofs.Members.{once_append, once_apart, once_left, once_right}
+use Rattle.blk_base.proofs.Members.{once_append, once_apart, once_left, once_right}
 use Rattle.tree_frame.proofs.EditLaws.{same_unless_free}
 
 -- these blocks aren't Free, and the edited tree hasn't them

@@ -1,4 +1,3 @@
-pub mod Members
 pub mod EditLaws
 pub mod Among
 pub mod StepLaws

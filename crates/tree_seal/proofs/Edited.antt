@@ -17,7 +17,7 @@ use Rattle.tree_range.proofs.Bodies.{node_body_is}
 use Rattle.tree_range.proofs.Law.{Child}
 use Rattle.tree_range.proofs.Local.{node_pointers_alike}
 use Rattle.tree_frame.specs.Frame.{IsEdit}
-use Rattle.tree_frame.proofs.Members.{in_cons, in_head, in_nothing, in_one, in_tail, is_in}
+use Rattle.blk_base.proofs.Members.{in_cons, in_head, in_nothing, in_one, in_tail, is_in}
 use Rattle.tree_seal.specs.Above.{DirtyIsAbove, IsDirtyAbove}
 use Rattle.tree_seal.specs.OnImage.{AreClean, root_want}
 use Rattle.tree_seal.proofs.Above.{Under, clean_below}

@@ -15,7 +15,7 @@ use Rattle.blk_base.specs.Trees.{AtBlock, NoneTwice, child_want}
 use Rattle.block_table.specs.TreeIn.{IsSealedSubtree, block_at}
 use Rattle.tree_range.specs.Shape.{AreAlike, node_pointers, reach_below}
 use Rattle.tree_range.proofs.Local.{IsAlikeBelow, alike_below, node_pointers_alike}
-use Rattle.tree_frame.proofs.Members.{in_nothing, in_one, once_apart, once_left, once_right}
+use Rattle.blk_base.proofs.Members.{in_nothing, in_one, once_apart, once_left, once_right}
 use Rattle.tree_blocks.specs.Lists.{IsNodeBlock, node_list}
 use Rattle.tree_blocks.specs.Steps.{HasNewBytes, IsDirtyNode, IsSameBut, node_at}
 use Rattle.tree_seal.specs.Above.{DirtyIsAbove}

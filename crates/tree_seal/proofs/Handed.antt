@@ -8,7 +8,7 @@ use Rattle.blk_base.specs.Trees.{AtBlock}
 use Rattle.block_table.specs.Slot.{BlockSlot}
 use Rattle.block_table.specs.Table.{Table}
 use Rattle.block_table.specs.TreeIn.{block_at}
-use Rattle.tree_frame.proofs.Members.{in_head, in_nothing, in_one, in_cons, in_tail, once_append}
+use Rattle.blk_base.proofs.Members.{in_head, in_nothing, in_one, in_cons, in_tail, once_append}
 use Rattle.tree_seal.specs.Sealing.{AreHanded, as_handed}
 use Rattle.tree_seal.proofs.Cuts.{map_append, map_same}
 

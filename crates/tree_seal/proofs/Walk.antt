@@ -18,7 +18,7 @@ use Rattle.tree_range.specs.Shape.{AreAlike, IsSubtree, node_pointers, reach_bel
 use Rattle.tree_range.proofs.Bodies.{node_body_is}
 use Rattle.tree_range.proofs.Law.{Child}
 use Rattle.tree_range.proofs.Local.{alike_below}
-use Rattle.tree_frame.proofs.Members.{in_head}
+use Rattle.blk_base.proofs.Members.{in_head}
 use Rattle.tree_blocks.specs.Lists.{IsNodeBlock}
 use Rattle.tree_blocks.specs.Steps.{IsDirtyNode, IsNodeAt, node_at}
 use Rattle.tree_blocks.proofs.Listing.{node_from_ok}

@@ -18,7 +18,7 @@ use Rattle.tree_range.specs.Shape.{AreAlike, IsSubtree, items_below, leaf_items,
 use Rattle.tree_range.proofs.Bodies.{is_ok, leaf_body_is, leaf_items_are, node_pointers_are}
 use Rattle.tree_range.proofs.Law.{Child}
 use Rattle.tree_frame.proofs.Reading.{all_parts}
-use Rattle.tree_frame.proofs.Members.{in_cons, in_head, in_nothing, in_one, in_tail}
+use Rattle.blk_base.proofs.Members.{in_cons, in_head, in_nothing, in_one, in_tail}
 use Rattle.tree_blocks.specs.Steps.{IsSameBut, node_at}
 use Rattle.tree_seal.specs.Sealing.{AreHanded, IsSealable, IsSealedBelow, IsSealedOne, IsSealedSlot, IsSealing, as_handed}
 use Rattle.tree_seal.proofs.Cuts.{drop_whole, joined_map, take_whole}
