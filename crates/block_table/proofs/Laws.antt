@@ -5,9 +5,9 @@ use Rattle.std.proofs.lemmas.Bool.{cases_lt, cases_order, eqb-true, eq-eqb}
 use Rattle.std.proofs.lemmas.List.{get_or-set_same, get_or-set_other, set_past, get_or_past}
 use Rattle.blk_base.specs.declared.key.Addr.{Addr}
 use Rattle.block_table.specs.Slot.{BlockSlot, free_slot}
-use Rattle.block_table.specs.Blocks.{AtBlock}
+use Rattle.blk_base.specs.Trees.{AtBlock}
 use Rattle.block_table.specs.Table.{Table, slot_at, with_slot, free_blocks, free_one, free_from, brought_back, all_back}
-use Rattle.block_table.specs.Counts.{free_from-set}
+use Rattle.block_table.proofs.Counts.{free_from-set}
 
 -- the block that was put there
 pub slot_at-with_slot_same : (table : Table) (at : Addr) (slot : BlockSlot) → at.0 % 4096 ≡ 0 → at.0 / 4096 < length table.slots → slot_at (with_slot table at slot) at ≡ slot
