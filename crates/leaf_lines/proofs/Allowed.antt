@@ -4,10 +4,10 @@ use Rattle.std.proofs.lemmas.List.Elements.{All-cons, All-nil}
 use Rattle.flat_model.specs.declared.op.Op.{Op}
 use Rattle.flat_model.specs.declared.op.Op.TheVariants.{Create, Write}
 use Rattle.flat_model.specs.Step.{IsInLimits}
-use Rattle.script_text.specs.declared.script.Line.{Line}
-use Rattle.script_text.specs.declared.script.Line.TheVariants.{Plain}
-use Rattle.script_text.specs.declared.script.Request.{Request}
-use Rattle.script_text.specs.declared.script.Request.TheVariants as requests
+use Rattle.flat_model.specs.declared.request.Line.{Line}
+use Rattle.flat_model.specs.declared.request.Line.TheVariants.{Plain}
+use Rattle.flat_model.specs.declared.request.Request.{Request}
+use Rattle.flat_model.specs.declared.request.Request.TheVariants as requests
 use Rattle.script_text.specs.Script.{script_of}
 use Rattle.script_text.specs.Grammar.{AreOp, AreRequest, IsLine, Speak}
 use Rattle.script_text.proofs.ScriptLaw.{script_both}

@@ -7,10 +7,10 @@ use Rattle.leaf_sync.specs.declared.store.LeafStore.{LeafStore}
 use Rattle.leaf_sync.specs.Sync.{Holds}
 use Rattle.io_edge.specs.Edge.{Takes, TakesFront}
 use Rattle.io_edge.proofs.Sinks.{Takes-joins, TakesFront-behind}
-use Rattle.script_text.specs.declared.script.Line.{Line}
-use Rattle.script_text.specs.declared.script.Line.TheVariants.{Plain}
-use Rattle.script_text.specs.declared.script.Request.{Request}
-use Rattle.script_text.specs.declared.script.Request.TheVariants as requests
+use Rattle.flat_model.specs.declared.request.Line.{Line}
+use Rattle.flat_model.specs.declared.request.Line.TheVariants.{Plain}
+use Rattle.flat_model.specs.declared.request.Request.{Request}
+use Rattle.flat_model.specs.declared.request.Request.TheVariants as requests
 use Rattle.script_answer.specs.Words.{answer_line, done_line}
 use Rattle.leaf_run.specs.Run.{AreCalls, CallLeaves, Finished, IsCall, Kept, LeavesKept, RunLeaves, State, state_after}
 use Rattle.leaf_run.proofs.Syncs.{held_kept}

@@ -1,9 +1,9 @@
 -- What a run of a script's lines comes to, and its text.
 use Rattle.std.specs.Prelude.{◌≡◌, ◌⊎◌, ℕ, List, [], ◌∷◌, ◌++◌, length, All, Option, Result, Ok, Err}
 use Rattle.io_edge.specs.Edge.{Takes, TakesFront}
-use Rattle.script_text.specs.declared.script.Line.{Line}
-use Rattle.script_text.specs.declared.script.Line.TheVariants.{Plain}
-use Rattle.script_text.specs.declared.script.Request.{Request}
+use Rattle.flat_model.specs.declared.request.Line.{Line}
+use Rattle.flat_model.specs.declared.request.Line.TheVariants.{Plain}
+use Rattle.flat_model.specs.declared.request.Request.{Request}
 use Rattle.script_answer.specs.Words.{answer_line, done_line}
 use Rattle.leaf_run.specs.Run.{AreCalls, Finished, IsAllowedRequest, State, state_after}
 use Rattle.leaf_lines.specs.declared.fault.RunFault.{RunFault}

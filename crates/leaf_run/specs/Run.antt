@@ -6,16 +6,16 @@ use Rattle.flat_model.specs.declared.op.Op.{Op}
 use Rattle.flat_model.specs.Volume.{Volume, RunVolume, volume_of}
 use Rattle.flat_model.specs.Running.{IsSoundVolume}
 use Rattle.flat_model.specs.Step.{IsInLimits}
-use Rattle.flat_laws.specs.Refusal.{is_refusal}
+use Rattle.flat_model.specs.Refusal.{is_refusal}
 use Rattle.flat_volume.specs.Applying.{IsApplied}
 use Rattle.one_leaf.specs.OneLeaf.{IsOneLeaf}
 use Rattle.disk_model.specs.Disk.{Image, Told, Leaves, IfTold, AtEveryMoment, held_now}
 use Rattle.volume_image.specs.Stands.{Stands}
 use Rattle.leaf_sync.specs.Sync.{HasRisen, IsStore, StandsForOne, StandsForSome}
-use Rattle.script_text.specs.declared.script.Line.{Line}
-use Rattle.script_text.specs.declared.script.Line.TheVariants.{Plain}
-use Rattle.script_text.specs.declared.script.Request.{Request}
-use Rattle.script_text.specs.declared.script.Request.TheVariants as requests
+use Rattle.flat_model.specs.declared.request.Line.{Line}
+use Rattle.flat_model.specs.declared.request.Line.TheVariants.{Plain}
+use Rattle.flat_model.specs.declared.request.Request.{Request}
+use Rattle.flat_model.specs.declared.request.Request.TheVariants as requests
 use Rattle.script_answer.specs.declared.answer.FirstAnswer.{FirstAnswer}
 use Rattle.script_answer.specs.declared.answer.FirstAnswer.TheVariants as answers
 use Rattle.leaf_run.specs.declared.run.LeafRun.{LeafRun}

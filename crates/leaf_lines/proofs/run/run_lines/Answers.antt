@@ -1,5 +1,5 @@
 use Rattle.std.proofs.Common.{◌+◌, List, refl, take, ◌∙◌, arith}
-use Rattle.script_text.specs.declared.script.Line.{Line}
+use Rattle.flat_model.specs.declared.request.Line.{Line}
 use Rattle.leaf_run.specs.Run.{Finished, State, state_of}
 use Rattle.leaf_lines.specs.declared.fault.RunFault.TheVariants as faults
 use Rattle.leaf_lines.proofs.Calls.{IsCut, IsTaken, Takes-none, counted, cut_more, done_line_more, done_more, done_none, done_same, ends_in_a_line, ends_in_the_last_line, ends_well, ends_without_memory, err_is, line_is, taken_more}
