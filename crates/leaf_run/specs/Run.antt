@@ -49,6 +49,7 @@ abbrev pub IsCall : State → Request → Finished → Type 0
 IsCall before (requests.Op op) call =
     IsOperated before.volume call.after.volume op call.answer × (call.after.told ≡ before.told) × (call.after.faults ≡ before.faults)
 IsCall before requests.Sync call = (call.after.volume ≡ before.volume) × IsSyncAnswer before.faults call.after.faults call.answer
+IsCall before request call = ⊥
 
 -- what the calls of these lines come to, one after the other (own)
 abbrev pub AreCalls : State → List Line → List Finished → Type 0
@@ -56,6 +57,7 @@ AreCalls before [] [] = ⊤
 AreCalls before [] (call ∷ calls) = ⊥
 AreCalls before (line ∷ lines) [] = ⊥
 AreCalls before (Plain caller request ∷ lines) (call ∷ calls) = IsCall before request call × AreCalls call.after lines calls
+AreCalls before (line ∷ lines) (call ∷ calls) = ⊥
 
 -- the state behind the last of these calls (own)
 abbrev pub state_after : State → List Finished → State
@@ -89,6 +91,7 @@ abbrev pub CallLeaves : Kept → State → Request → Finished → Kept → Typ
 CallLeaves kept before (requests.Op op) call after = after ≡ kept
 CallLeaves kept before requests.Sync call after =
     AtEveryMoment before.told call.after.told (StandsForOne kept.last kept.failed (volume_of before.volume)) × IsSynced (volume_of before.volume) kept call.answer after
+CallLeaves kept before request call after = ⊥
 
 -- what a crash may leave before, during and after each of these calls (own)
 abbrev pub RunLeaves : Kept → State → List Line → List Finished → Type 0
@@ -97,13 +100,15 @@ RunLeaves kept before [] (call ∷ calls) = ⊥
 RunLeaves kept before (line ∷ lines) [] = ⊥
 RunLeaves kept before (Plain caller request ∷ lines) (call ∷ calls) =
     LeavesKept kept before.told × ((after : Kept) × CallLeaves kept before request call after × RunLeaves after call.after lines calls)
+RunLeaves kept before (line ∷ lines) (call ∷ calls) = ⊥
 
 -- ---- runs
 
--- a request whose operation is in its limits (own)
+-- a request that this run carries out: an operation in its limits, or a sync (own)
 abbrev pub IsAllowedRequest : Request → Type 0
 IsAllowedRequest (requests.Op op) = IsInLimits op
 IsAllowedRequest requests.Sync = ⊤
+IsAllowedRequest request = ⊥
 
 -- what holds of a run between two calls: its volume is sound and stands in one leaf, and its store is one of a disk of so many blocks (own)
 pub record IsRunning (run : LeafRun) (count : ℕ) : Type 0 where
