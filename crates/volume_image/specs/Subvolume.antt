@@ -138,13 +138,24 @@ IsExtentOf blocks (LinkInode link) key bytes = IsExtent key bytes (Inline link.t
 
 -- The item is one that the subvolume asks for.
 pub data IsAsked (sub : Subvolume) (blocks : Data) (key : Key) (bytes : List ℕ) : Type 0 where
-  InodeAsked : (inode : InodeRecord) → key.kind ≡ inode_item → key.offset ≡ 0 → get sub.inodes key.objectid ≡ Some inode → IsInodeOf sub key.objectid inode bytes → IsAsked sub blocks key bytes
-  RefsAsked : (found : List RefValue) → key.kind ≡ inode_ref → IsRefs key bytes found → IsPermutation found (refs_asked sub key.objectid key.offset) → IsAsked sub blocks key bytes
-  ExtRefsAsked : (found : List ExtRefValue) → key.kind ≡ inode_extref → IsExtRefs bytes found → IsPermutation found (extrefs_asked sub key.objectid key.offset) → IsAsked sub blocks key bytes
-  AttributesAsked : key.kind ≡ xattr_item → HasEntries xattr_item bytes (attributes_asked sub key.objectid key.offset) → IsAsked sub blocks key bytes
-  HashedAsked : key.kind ≡ dir_item → HasEntries dir_item bytes (hashed_asked sub key.objectid key.offset) → IsAsked sub blocks key bytes
-  IndexedAsked : key.kind ≡ dir_index → HasEntries dir_index bytes (indexed_asked sub key.objectid key.offset) → IsAsked sub blocks key bytes
-  ExtentAsked : (inode : InodeRecord) → key.kind ≡ extent_data → get sub.inodes key.objectid ≡ Some inode → IsExtentOf blocks inode key bytes → IsAsked sub blocks key bytes
+  -- the item of an inode that is there, under offset 0
+  InodeAsked : (inode : InodeRecord) (kind : key.kind ≡ inode_item) (offset : key.offset ≡ 0) (there : get sub.inodes key.objectid ≡ Some inode)
+      (is : IsInodeOf sub key.objectid inode bytes) → IsAsked sub blocks key bytes
+  -- the near names of an inode in the directory of the key's offset
+  RefsAsked : (found : List RefValue) (kind : key.kind ≡ inode_ref) (spelled : IsRefs key bytes found)
+      (same : IsPermutation found (refs_asked sub key.objectid key.offset)) → IsAsked sub blocks key bytes
+  -- the far names of an inode with the hash of the key's offset
+  ExtRefsAsked : (found : List ExtRefValue) (kind : key.kind ≡ inode_extref) (spelled : IsExtRefs bytes found)
+      (same : IsPermutation found (extrefs_asked sub key.objectid key.offset)) → IsAsked sub blocks key bytes
+  -- the attributes of an inode whose names have the hash of the key's offset
+  AttributesAsked : (kind : key.kind ≡ xattr_item) (has : HasEntries xattr_item bytes (attributes_asked sub key.objectid key.offset)) → IsAsked sub blocks key bytes
+  -- the names in a directory with the hash of the key's offset
+  HashedAsked : (kind : key.kind ≡ dir_item) (has : HasEntries dir_item bytes (hashed_asked sub key.objectid key.offset)) → IsAsked sub blocks key bytes
+  -- the name in a directory at the index of the key's offset
+  IndexedAsked : (kind : key.kind ≡ dir_index) (has : HasEntries dir_index bytes (indexed_asked sub key.objectid key.offset)) → IsAsked sub blocks key bytes
+  -- an extent of a file from the byte of the key's offset on, or a symlink's target
+  ExtentAsked : (inode : InodeRecord) (kind : key.kind ≡ extent_data) (there : get sub.inodes key.objectid ≡ Some inode)
+      (is : IsExtentOf blocks inode key bytes) → IsAsked sub blocks key bytes
 
 -- how many bytes of its file an extent item covers
 abbrev pub extent_len : Key → List ℕ → ℕ
