@@ -1,5 +1,5 @@
 -- Trees whose blocks stand in a table of blocks.
-use Rattle.std.specs.Prelude.{◌≡◌, ◌≢◌, ◌≤◌, ℕ, zero, suc, Bool, true, false, List, [], ◌∷◌, ◌++◌, length, All, Option, Some, None, Contains, if◌then◌else◌}
+use Rattle.std.specs.Prelude.{◌≡◌, ◌≢◌, ◌≤◌, ℕ, zero, suc, Bool, true, false, List, [], ◌∷◌, length, All, Some}
 use Rattle.blk_base.specs.declared.key.Want.{Want}
 use Rattle.blk_base.specs.Address.{IsAllowed}
 use Rattle.blk_base.specs.Trees.{AreChildren, ItemsRise, NoneTwice, child_want, first_key, least_items, least_pointers}

@@ -1,8 +1,11 @@
 -- What a tree gives depends on the bytes of its blocks and of its files' alone.
-use Rattle.std.proofs.Common.{◌≡◌, ◌≢◌, ◌∙◌, ℕ, List, [], ◌∷◌, ◌++◌, Option, Some, None, true, refl, sym, ap, subst, if◌then◌else◌}
-use Rattle.std.specs.Prelude.{All, Contains}
+use Rattle.std.proofs.Common.{◌≡◌, ◌≢◌, ◌∙◌, ◌/◌, ℕ, List, [], ◌∷◌, ◌++◌, length, Option, Some, None, true, refl, sym, ap, subst, if◌then◌else◌}
+use Rattle.std.specs.Prelude.{All, Contains, slice_get, slice_index_or}
 use Rattle.std.proofs.lemmas.List.Elements.{All-append, All-contains, All-cons, All-nil}
 use Rattle.blk_base.specs.Bytes.{field}
+use Rattle.blk_base.specs.Address.{IsAllowed}
+use Rattle.blk_base.specs.Items.{RootValue}
+use Rattle.blk_base.specs.Superblock.{SuperValue}
 use Rattle.blk_base.specs.Extents.{extent_of, inline_bytes, regular_bytes}
 use Rattle.blk_base.specs.Leaf.{Item}
 use Rattle.blk_base.specs.Trees.{NoneTwice}
@@ -19,6 +22,8 @@ use Rattle.tree_frame.specs.Frame.{AreReadable}
 use Rattle.tree_frame.proofs.Reading.{IsReadable, IsReadTree, reach_taken, read_tree}
 use Rattle.flat_model.specs.Volume.{Subvolume}
 use Rattle.volume_image.specs.Subvolume.{AreItemsOf, data_addresses}
+use Rattle.volume_image.specs.Stands.{IsSubvolumeAt, data_of, sub_want}
+use Rattle.volume_image.specs.Tree.{Image, IsTree as IsTreeOn}
 use Rattle.volume_image.specs.Worked.{worked_items, worked_subvolume}
 use Rattle.volume_image.proofs.Standing.{items_local}
 use Rattle.volume_image.proofs.Worked.{worked_items_are}
@@ -71,6 +76,22 @@ gives_by_bytes old new tree sub readable gives =
   where
     taken_now : (old new : Table) (reach : List ℕ) → AreReadable old new reach → All (IsTaken new) reach
     taken_now old new reach h = λ k d within. (h k d within).0
+
+pub readings_join : (old middle new : Table) (reach : List ℕ) → AreReadable old middle reach → AreReadable middle new reach → AreReadable old new reach
+readings_join old middle new reach one two =
+    λ k d within. ((two k d within).0, (two k d within).1 ∙ (one k d within).1)
+
+-- ---- on an image
+
+pub on_image : (table : Table) (tree : Tree) (sub : Subvolume) (image : Image) (super : SuperValue) (id : ℕ) (root : RootValue) → GivesSubvolume table tree sub → super.blocks ≡ length table.slots → IsTreeOn image super.blocks (sub_want super id root) (tree_items table tree) (tree_reach table tree) → All (λ at. slice_get image (at / 4096) ≡ Some (block_at table at).bytes) (tree_data table tree) → IsSubvolumeAt image super id root sub (sub_reach table tree)
+on_image table tree sub image super id root gives size tree_on data_on = record {
+  items = tree_items table tree;
+  tree_reach = tree_reach table tree;
+  tree = tree_on;
+  same = items_local (data_in table) (data_of image) (tree_items table tree) sub gives.items (λ at there. data_at table at (All-contains (IsTaken table) (tree_data table tree) at gives.data_taken there) ∙ sym (All-contains (λ (a : ℕ). slice_get image (a / 4096) ≡ Some (block_at table a).bytes) (tree_data table tree) at data_on there));
+  allowed = λ k d within. subst (λ (n : ℕ). IsAllowed n (slice_index_or (tree_data table tree) k d)) (sym size) (gives.data_taken k d within).allowed;
+  reached = refl;
+}
 
 -- ---- the worked subvolume
 

@@ -1,6 +1,8 @@
 //! What a tree gives by the bytes of the table: the functions here have no parameters and no body.
 
-ghost use Rattle.std.specs.Prelude.{◌≡◌, ℕ, List, All, Contains};
+ghost use Rattle.std.specs.Prelude.{◌≡◌, ◌/◌, ℕ, List, length, All, Contains, Some, slice_get};
+ghost use Rattle.blk_base.specs.Items.{RootValue};
+ghost use Rattle.blk_base.specs.Superblock.{SuperValue};
 ghost use Rattle.flat_model.specs.Coherent.{IsCoherent};
 ghost use Rattle.flat_model.specs.Volume.{Subvolume};
 ghost use Rattle.block_table.specs.declared.tree.Tree.{Tree};
@@ -8,8 +10,10 @@ ghost use Rattle.block_table.specs.Table.{Table};
 ghost use Rattle.block_table.specs.TreeIn.{IsTaken, block_at};
 ghost use Rattle.tree_range.specs.Shape.{IsTree, tree_items, tree_reach};
 ghost use Rattle.tree_frame.specs.Frame.{AreReadable};
+ghost use Rattle.volume_image.specs.Stands.{IsSubvolumeAt, sub_want};
+ghost use Rattle.volume_image.specs.Tree.{Image, IsTree as IsTreeOn};
 ghost use Rattle.volume_image.specs.Worked.{worked_items, worked_subvolume};
-ghost use Rattle.table_volume.specs.Gives.{GivesSubvolume, sub_reach};
+ghost use Rattle.table_volume.specs.Gives.{GivesSubvolume, sub_reach, tree_data};
 
 /// A tree gives at most one coherent subvolume (own).
 pub fn a_tree_gives_one_subvolume()
@@ -36,4 +40,19 @@ pub fn a_worked_subvolume_is_given()
     ensures { (table : Table) (tree : Tree) (block : List ℕ) → IsTree table tree → tree_items table tree ≡ worked_items
         → IsTaken table 81920 → (block_at table 81920).bytes ≡ block → (Contains (tree_reach table tree) 81920 → ⊥)
         → GivesSubvolume table tree (worked_subvolume block) }
+{}
+
+/// Where what is read of blocks stays over one change of the table and over another, it stays over both (own).
+pub fn readings_join()
+    ensures { (old middle new : Table) (reach : List ℕ) → AreReadable old middle reach → AreReadable middle new reach → AreReadable old new reach }
+{}
+
+/// An image that has a tree's blocks, with its items, and its files' blocks with their bytes has the subvolume that the
+/// tree gives, by the same blocks ("ROOT_ITEM").
+pub fn a_subvolume_is_on_an_image()
+    ensures { (table : Table) (tree : Tree) (sub : Subvolume) (image : Image) (super : SuperValue) (id : ℕ) (root : RootValue)
+        → GivesSubvolume table tree sub → super.blocks ≡ length table.slots
+        → IsTreeOn image super.blocks (sub_want super id root) (tree_items table tree) (tree_reach table tree)
+        → All (λ at. slice_get image (at / 4096) ≡ Some (block_at table at).bytes) (tree_data table tree)
+        → IsSubvolumeAt image super id root sub (sub_reach table tree) }
 {}

@@ -10,3 +10,4 @@
 pub mod edits;
 pub mod frame;
 pub mod gives;
+pub mod running;
