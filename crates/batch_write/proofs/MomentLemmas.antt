@@ -6,7 +6,7 @@ use Rattle.std.proofs.lemmas.List.Elements.{All-set}
 use Rattle.std.proofs.lemmas.Option.{slice_get-get_or}
 use Rattle.blk_base.specs.Bytes.{IsBlock}
 use Rattle.disk_model.specs.Disk.{Image, IsImage, Call, Held, Told, Moment, Leaves, EveryMoment, IfBoth, IfTold, Continues, after_call, during_call, after_calls, held_first, held_now, image_now, written, super_written}
-use Rattle.disk_model.specs.Laws.{held_now-goes_on, EveryMoment-one_call, EveryMoment-joins, EveryMoment-weaker, EveryMoment-same, leaves_after_flush, Leaves-after, slice_get-set_other, slice_get-set_same, Contains-cons_cases, Contains-single, Contains-none}
+use Rattle.disk_model.proofs.CrashLaws.{held_now-goes_on, EveryMoment-one_call, EveryMoment-joins, EveryMoment-weaker, EveryMoment-same, leaves_after_flush, Leaves-after, slice_get-set_other, slice_get-set_same, Contains-cons_cases, Contains-single, Contains-none}
 use Rattle.batch_write.specs.Batch.{AtBlock, HasBatch, HasBlock, IsOldBut, IsOldOrNew, IsTried, LeavesOnly, NoSuper, numbers_of}
 use Rattle.batch_write.proofs.ImageLemmas.{IsNext, number_among, same_or_other}
 

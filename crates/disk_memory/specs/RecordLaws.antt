@@ -4,7 +4,7 @@ use Rattle.std.proofs.Common.{sym, ◌∙◌, ap, subst, inl, inr, arith, get_or
 use Rattle.std.proofs.lemmas.Bool.{cases_lt}
 use Rattle.std.proofs.lemmas.List.{length-set, set_past, take-append-drop}
 use Rattle.disk_model.specs.Disk.{Image, IsImage, Call, Held, Leaves, GoesOn, after_call, after_calls, held_first, held_now, image_now}
-use Rattle.disk_model.specs.Laws.{slice_get-set_other, Contains-here, Contains-there}
+use Rattle.disk_model.proofs.CrashLaws.{slice_get-set_other, Contains-here, Contains-there}
 use Rattle.disk_memory.specs.declared.entry.Entry.{Entry}
 use Rattle.disk_memory.specs.declared.entry.Entry.TheVariants.{Write, Super, Flush}
 use Rattle.disk_memory.specs.Record.{call_of, image_by, calls_of, reads_by, told_by, has_no_flush, has_no_super}

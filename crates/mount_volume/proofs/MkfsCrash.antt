@@ -3,7 +3,7 @@ use Rattle.std.proofs.Common.{◌≡◌, ◌≢◌, ◌<◌, ◌⊎◌, ◌∷�
 use Rattle.std.proofs.lemmas.List.Elements.{All-set}
 use Rattle.blk_base.specs.Bytes.{zeros}
 use Rattle.disk_model.specs.Disk.{IsBlock, Image, IsImage, Call, Held, Told, Leaves, GoesOn, EveryMoment, IfBoth, IfTold, TellsMore, Continues, after_call, during_call, after_calls, held_now, image_now, written, super_written}
-use Rattle.disk_model.specs.Laws.{held_now-goes_on, TellsMore-joins, EveryMoment-call, EveryMoment-same, EveryMoment-joins, EveryMoment-weaker, slice_get-set_other, slice_get-set_same, Contains-cons_cases, Contains-single, Contains-none}
+use Rattle.disk_model.proofs.CrashLaws.{held_now-goes_on, TellsMore-joins, EveryMoment-call, EveryMoment-same, EveryMoment-joins, EveryMoment-weaker, slice_get-set_other, slice_get-set_same, Contains-cons_cases, Contains-single, Contains-none}
 use Rattle.volume_image.specs.Stands.{super_block}
 use Rattle.mount_volume.specs.Mkfs.{FindsWhatIsRead, CrashLeaves, IsOldOrWritten}
 
