@@ -331,7 +331,7 @@ settled-write held at bytes ok left block other settled (inl pending) =
 settled-write held at bytes ok left block other settled (inr lost) = settled (inr (lost_before at ok held.lost block lost))
 
 -- the same while the write runs
-settled-writing : (held : Held) (at : ℕ) (bytes : List ℕ) (ok : Bool) (left : List ℕ) (block : ℕ) → at ≢ block → (IsUnsettled held block → ⊥) → IsUnsettled (during_call held (Call.Write at bytes ok left)) block → ⊥
+pub settled-writing : (held : Held) (at : ℕ) (bytes : List ℕ) (ok : Bool) (left : List ℕ) (block : ℕ) → at ≢ block → (IsUnsettled held block → ⊥) → IsUnsettled (during_call held (Call.Write at bytes ok left)) block → ⊥
 settled-writing held at bytes ok left block other settled (inl pending) =
     elim (Contains-cons_cases at held.pending block pending) [ inl same ↦ other same | inr among ↦ settled (inl among) ]
 settled-writing held at bytes ok left block other settled (inr lost) = settled (inr lost)
