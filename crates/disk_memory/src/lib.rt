@@ -1,9 +1,11 @@
 //! Disks in memory, for tests: one that keeps the record of its calls and fails when it is told to, and one that never
 //! fails.
 //!
-//! `MemoryDisk` tells every moment of its calls, and `crash` makes a disk of one of the images that a crash may leave.
+//! `MemoryDisk` tells every moment of its calls, and `crash` makes a disk of one of the images that a crash may leave. It drops
+//! what is pending when a flush fails: a later read gives what was there before.
 #![tactic(auto)]
 
+mod block_state;
 mod blocks;
 mod crash;
 mod entry;
