@@ -40,13 +40,7 @@ fn tear(kept: &Kept, rng: &mut Lcg64Xsh32, image: &mut Blocks)
 }
 
 /// The same of one block, to which these bytes were written.
-fn tear_block(
-    kept: &Kept,
-    rng: &mut Lcg64Xsh32,
-    image: &mut Blocks,
-    place: &Place,
-    bytes: &Block,
-)
+fn tear_block(kept: &Kept, rng: &mut Lcg64Xsh32, image: &mut Blocks, place: &Place, bytes: &Block)
     requires { Leaves (held_now (told_by kept.now.first.items.items kept.now.entries.items)) image.old.items.items }
     ensures { Leaves (held_now (told_by kept.now.first.items.items kept.now.entries.items)) image.new.items.items }
 {

@@ -2,8 +2,8 @@ ghost use Rattle.std.specs.Prelude.{◌≡◌, ◌<◌, ◌≤◌, ◌∷◌, �
 ghost use Rattle.disk_model.specs.Disk.{GoesOn, Call, held_now, lost_after, written, super_written};
 ghost use Rattle.disk_memory.specs.Record.{IsStateOf, lost_by, reads_by, told_by, has_no_super};
 
-use crate::blocks::Blocks;
 use crate::block_state::BlockState;
+use crate::blocks::Blocks;
 use crate::entry::{Entry, Place};
 use blk_base::{Block, OutOfMemory};
 use std::alloc::Global;

@@ -537,3 +537,12 @@ pub known_read : (seen : Option Image) (lost : List ℕ) (block : ℕ) (bytes : 
 known_read None [] block bytes gives = tt
 known_read (Some image) [] block bytes gives = gives (Contains-none block)
 known_read seen (at ∷ lost) block bytes gives = tt
+
+-- what holds of what a read gives holds where no block is lost
+pub known_told : (seen : Option Image) (lost : List ℕ) (P : Image → Type 0) → IfTold seen P → IfTold (known seen lost) P
+known_told seen [] P holds = holds
+known_told seen (at ∷ lost) P holds = tt
+
+-- what a read gives stays
+pub known_same : (before after : Option Image) (lost lost' : List ℕ) → after ≡ before → lost' ≡ lost → known after lost' ≡ known before lost
+known_same before after lost lost' seen same = ap (λ (image : Option Image). known image lost') seen ∙ ap (known before) same
