@@ -2,8 +2,9 @@
 use Rattle.std.proofs.Common.{◌≡◌, ◌+◌, ◌/◌, ◌++◌, ◌∷◌, [], ℕ, suc, List, take, drop, map, Contains, Option, Some, None, Bool, true, false, Result, Ok, Err, OnErr, IsErrOf, is_ok, refl, sym, ◌∙◌, ap, subst, inl, inr, append_assoc, append-nil, arith}
 use Rattle.std.proofs.Math.Seq.{drop-cons}
 use Rattle.std.proofs.lemmas.List.{map-append, map_more, take-append-drop, take_all}
+use Rattle.std.proofs.lemmas.List.Elements.{Contains-append_cases}
 use Rattle.disk_model.specs.Disk.{Image, Call, Told, IfBoth, TellsMore, Continues, GoesOn, GoesOnUntil, IsCutOff, as_failed, without, written, super_written}
-use Rattle.disk_model.proofs.CrashLaws.{Contains-append_cases, Contains-none, Contains-single, GoesOn-joins, GoesOn-same, TellsMore-joins, without-less, without-none}
+use Rattle.disk_model.proofs.CrashLaws.{Contains-none, Contains-single, GoesOn-joins, GoesOn-same, TellsMore-joins, without-less, without-none}
 use Rattle.batch_write.specs.Batch.{AtBlock, Regained, numbers_of, super_call, write_call}
 use Rattle.batch_write.proofs.ImageLemmas.{IsNext}
 

@@ -2,11 +2,8 @@
 use Rattle.std.specs.Prelude.{◌≡◌, ◌≢◌, ◌/◌, ◌%◌, ◌<◌, ◌⊎◌, ◌++◌, ◌∷◌, [], ℕ, List, length, map, All, Contains, Some, true, slice_get}
 use Rattle.std.specs.declared.boxed.Box.{Box}
 use Rattle.blk_base.specs.declared.key.Addr.{Addr}
+pub use Rattle.blk_base.specs.Trees.{AtBlock}
 use Rattle.disk_model.specs.Disk.{Image, IsImage, Call, Told, Leaves, held_now}
-
--- a block, and the byte address where it is to stand (own)
-abbrev pub AtBlock : Type 0
-AtBlock = Addr × List ℕ
 
 -- the blocks of a batch by their bytes
 abbrev pub blocks_of : {A : Type 0} → List (Addr × Box (List ℕ) A) → List AtBlock

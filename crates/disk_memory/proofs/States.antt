@@ -2,8 +2,9 @@
 use Rattle.std.proofs.Common.{◌≡◌, ◌≢◌, ◌==◌, ◌||◌, ◌&&◌, ◌++◌, ◌∷◌, ◌+◌, ◌<◌, ◌≤◌, [], ℕ, List, length, take, get_or, Contains, Bool, true, false, cond, refl, sym, ◌∙◌, ap, subst, inl, inr, eqb-true, arith}
 use Rattle.std.proofs.lemmas.Bool.{eqb-false}
 use Rattle.std.proofs.lemmas.List.{take_all, take_more}
+use Rattle.std.proofs.lemmas.List.Elements.{Contains-append_left, Contains-append_right}
 use Rattle.disk_model.specs.Disk.{Call, Held, Image, IsUnsettled, after_call, held_first, held_now}
-use Rattle.disk_model.proofs.CrashLaws.{Contains-append_left, Contains-append_right, Contains-here, Contains-none, Contains-there, without-other}
+use Rattle.disk_model.proofs.CrashLaws.{Contains-here, Contains-none, Contains-there, without-other}
 use Rattle.disk_memory.specs.declared.entry.Place.{Place}
 use Rattle.disk_memory.specs.declared.entry.Entry.{Entry}
 use Rattle.disk_memory.specs.declared.entry.Entry.TheVariants.{Write, Super, Flush}

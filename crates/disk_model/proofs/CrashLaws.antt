@@ -3,6 +3,7 @@ use Rattle.std.specs.Prelude.{◌≡◌, ◌≢◌, ◌<◌, ◌⊎◌, ◌++◌
 use Rattle.std.proofs.Common.{sym, ◌∙◌, ap, subst, inl, inr, append_assoc, append-nil, eqb-true, arith}
 use Rattle.std.proofs.lemmas.Bool.{eqb-false}
 use Rattle.std.proofs.lemmas.List.{append_cancel_left, length-set}
+use Rattle.std.proofs.lemmas.List.Elements.{Contains-append_cases, Contains-append_left, Contains-append_right}
 use Rattle.disk_model.specs.Disk.{Image, Call, Told, Held, Moment, Leaves, LeavesFrom, IsSince, GoesOn, EveryMoment, AtEveryMoment, Throughout, IfTold, TellsMore, Continues, ReadGives, known, HasNoSuper, HasNoFlush, Writes, Settles, IsUnsettled, without, lost_after, after_call, during_call, after_calls, held_first, held_now, image_now}
 
 -- calls one after another
@@ -260,25 +261,6 @@ Contains-there y xs x (k, within, same) = (suc k, omega (arith, within), same)
 -- the element in front
 pub Contains-here : {A : Type 0} (x : A) (xs : List A) → Contains (x ∷ xs) x
 Contains-here x xs = (zero, omega arith, refl)
-
--- an element of two lists is one of one of them
-pub Contains-append_cases : {A : Type 0} (xs ys : List A) (x : A) → Contains (xs ++ ys) x → Contains xs x ⊎ Contains ys x
-Contains-append_cases [] ys x among = inr among
-Contains-append_cases (z ∷ zs) ys x among = elim (Contains-cons_cases z (zs ++ ys) x among) [
-  | inl same ↦ inl (subst (Contains (z ∷ zs)) same (Contains-here z zs))
-  | inr rest ↦ elim (Contains-append_cases zs ys x rest) [ inl left ↦ inl (Contains-there z zs x left) | inr right ↦ inr right ]
-]
-
-pub Contains-append_left : {A : Type 0} (xs ys : List A) (x : A) → Contains xs x → Contains (xs ++ ys) x
-Contains-append_left [] ys x among = absurd (Contains-none x among)
-Contains-append_left (z ∷ zs) ys x among = elim (Contains-cons_cases z zs x among) [
-  | inl same ↦ subst (Contains (z ∷ (zs ++ ys))) same (Contains-here z (zs ++ ys))
-  | inr rest ↦ Contains-there z (zs ++ ys) x (Contains-append_left zs ys x rest)
-]
-
-pub Contains-append_right : {A : Type 0} (xs ys : List A) (x : A) → Contains ys x → Contains (xs ++ ys) x
-Contains-append_right [] ys x among = among
-Contains-append_right (z ∷ zs) ys x among = Contains-there z (zs ++ ys) x (Contains-append_right zs ys x among)
 
 -- a number of those without one is one of them
 pub without-less : (at : ℕ) (numbers : List ℕ) (k : ℕ) → Contains (without at numbers) k → Contains numbers k

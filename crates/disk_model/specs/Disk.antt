@@ -1,6 +1,7 @@
 -- A disk of blocks: what it tells of itself, and what a crash may leave of it.
 use Rattle.std.specs.Prelude.{◌≡◌, ◌≢◌, ◌==◌, ◌≤◌, ◌+◌, ◌^◌, ◌-◌, ◌⊎◌, ◌++◌, ◌∷◌, [], ℕ, List, length, min, take, cond, Contains, Option, Some, None, Bool, true, false, Result, OnErr, IsSomeAnd, slice_get, slice_set, slice_index_or}
 pub use Rattle.blk_base.specs.Bytes.{IsBlock, Image, IsImage}
+pub use Rattle.blk_base.specs.Causes.{IfTold, IfBoth, HasRisen, HasCause}
 
 -- A call that changes the disk, with whether it answered Ok. `left` is what its block reads as afterwards (own).
 pub data Call : Type 0 where
@@ -122,21 +123,9 @@ Throughout held [] P = (image : Image) → Leaves held image → P image
 Throughout held (call ∷ calls) P =
     ((image : Image) → Leaves held image → P image) × ((image : Image) → Leaves (during_call held call) image → P image) × Throughout (after_call held call) calls P
 
--- R holds of what is told before and after, where anything is; what is told before is told after, and nothing else (own)
-abbrev pub IfBoth : {A : Type 0} → Option A → Option A → (A → A → Type 0) → Type 0
-IfBoth None None R = Unit {0}
-IfBoth None (Some new) R = ⊥
-IfBoth (Some old) None R = ⊥
-IfBoth (Some old) (Some new) R = R old new
-
 -- the record goes on by these calls, where it is told (own)
 abbrev pub TellsMore : Option Told → Option Told → List Call → Type 0
 TellsMore before after added = IfBoth before after (λ old new. GoesOn old new added)
-
--- P holds of what is told, where anything is (own)
-abbrev pub IfTold : {A : Type 0} → Option A → (A → Type 0) → Type 0
-IfTold None P = Unit {0}
-IfTold (Some told) P = P told
 
 -- The record goes on by this call. One that failed may have left no trace: then the disk is as before (own).
 abbrev pub Continues : Option Told → Option Told → Bool → Call → Type 0
@@ -180,10 +169,6 @@ ReadGives seen lost at bytes = IfTold seen (λ image. (Contains lost at → ⊥)
 abbrev pub known : Option Image → List ℕ → Option Image
 known seen [] = seen
 known seen (at ∷ lost) = None
-
--- A count of faults never falls, and rises where a call answers a fault. At 2^64 - 1 it stands still, which counts as risen (own).
-abbrev pub HasCause : {T E : Type 0} → ℕ → ℕ → Result T E → Type 0
-HasCause before now result = (before ≤ now) × OnErr result (min (before + 1) (2 ^ 64 - 1) ≤ now)
 
 -- the calls have no write of the superblock (own)
 abbrev pub HasNoSuper : List Call → Type 0
