@@ -1,8 +1,10 @@
 -- Lemmas on what a crash may leave, for the proofs of this crate and of those above.
-use Rattle.std.specs.Prelude.{◌≡◌, ◌≢◌, ◌<◌, ◌⊎◌, ◌++◌, ◌∷◌, [], ℕ, zero, suc, List, length, Contains, Option, Some, None, Bool, true, false, slice_get, slice_set, slice_index_or, refl}
-use Rattle.std.proofs.Common.{sym, ◌∙◌, ap, subst, inl, inr, append_assoc, append-nil, arith}
+use Rattle.std.specs.Prelude.{◌≡◌, ◌≢◌, ◌<◌, ◌⊎◌, ◌++◌, ◌∷◌, [], ℕ, zero, suc, List, length, Contains, Option, Some, None, Bool, true, false, cond, ◌==◌, slice_get, slice_set, slice_index_or, refl}
+use Rattle.std.proofs.Common.{sym, ◌∙◌, ap, subst, inl, inr, append_assoc, append-nil, eqb-true, arith}
+use Rattle.std.proofs.lemmas.Bool.{eqb-false}
 use Rattle.std.proofs.lemmas.List.{append_cancel_left, length-set}
-use Rattle.disk_model.specs.Disk.{Image, Call, Told, Held, Moment, Leaves, LeavesFrom, IsSince, GoesOn, EveryMoment, AtEveryMoment, Throughout, IfTold, TellsMore, Continues, HasNoSuper, Writes, after_call, during_call, after_calls, held_first, held_now, image_now}
+use Rattle.std.proofs.lemmas.List.Elements.{Contains-append_cases, Contains-append_left, Contains-append_right}
+use Rattle.disk_model.specs.Disk.{Image, Call, Told, Held, Moment, Leaves, LeavesFrom, IsSince, GoesOn, EveryMoment, AtEveryMoment, Throughout, IfTold, TellsMore, Continues, ReadGives, known, HasNoSuper, HasNoFlush, Writes, Settles, IsUnsettled, without, lost_after, after_call, during_call, after_calls, held_first, held_now, image_now}
 
 -- calls one after another
 pub after_calls-append : (held : Held) (xs ys : List Call) → after_calls held (xs ++ ys) ≡ after_calls (after_calls held xs) ys
@@ -65,7 +67,7 @@ throughout_from_since P held (x ∷ xs) ys all =
 -- at first a record that goes on is as it was
 pub held_first-goes_on : (old new : Told) (added : List Call) → GoesOn old new added → held_first new ≡ held_first old
 held_first-goes_on old new added goes =
-    ap (λ (first : Image). record { image = first; pending = []; supers = new.supers }) goes.first ∙ ap (λ (supers : Image). record { image = old.first; pending = []; supers = supers }) goes.supers
+    ap (λ (first : Image). record { image = first; pending = []; lost = []; supers = new.supers }) goes.first ∙ ap (λ (supers : Image). record { image = old.first; pending = []; lost = []; supers = supers }) goes.supers
 
 -- what a record that goes on leads to
 pub held_now-goes_on : (old new : Told) (added : List Call) → GoesOn old new added → held_now new ≡ after_calls (held_now old) added
@@ -205,10 +207,17 @@ Contains-single y x (suc k, within, same) = absurd (omega (arith, within))
 pub Contains-none : {A : Type 0} (x : A) → Contains [] x → ⊥
 Contains-none x (k, within, same) = absurd (omega (arith, within))
 
--- after a flush that answered Ok, a crash leaves what a read gives, in every block but the superblock
-pub leaves_after_flush : (old new : Told) (image : Image) → GoesOn old new (Call.Flush true ∷ []) → Leaves (held_now new) image → (at : ℕ) → at ≢ 16 → slice_get image at ≡ slice_get (image_now new) at
-leaves_after_flush old new image goes leaves at other =
-    leaves.others at other (λ pending. Contains-none at (subst (λ (held : Held). Contains held.pending at) (held_now-goes_on old new (Call.Flush true ∷ []) goes) pending))
+-- after a flush nothing is pending
+unsettled_after_flush : (held : Held) (ok : Bool) (at : ℕ) → IsUnsettled (after_call held (Call.Flush ok)) at → Contains (after_call held (Call.Flush ok)).lost at
+unsettled_after_flush held ok at (inl pending) = absurd (Contains-none at pending)
+unsettled_after_flush held ok at (inr lost) = lost
+
+-- after a flush that answered Ok, a crash leaves what a read gives, in every block but the superblock and the lost ones
+pub leaves_after_flush : (old new : Told) (image : Image) → GoesOn old new (Call.Flush true ∷ []) → Leaves (held_now new) image → (at : ℕ) → at ≢ 16 → (Contains (held_now new).lost at → ⊥)
+    → slice_get image at ≡ slice_get (image_now new) at
+leaves_after_flush old new image goes leaves at other kept =
+    let same : held_now new ≡ after_call (held_now old) (Call.Flush true) = held_now-goes_on old new (Call.Flush true ∷ []) goes in
+    leaves.others at other (λ is. kept (subst (λ (held : Held). Contains held.lost at) (sym same) (unsettled_after_flush (held_now old) true at (subst (λ (held : Held). IsUnsettled held at) same is))))
 
 -- a call that writes no superblock leaves those that a crash may find
 supers-after_calls : (held : Held) (calls : List Call) → HasNoSuper calls → (after_calls held calls).supers ≡ held.supers
@@ -245,47 +254,6 @@ super_after_ok old mid new bytes left calls wrote goes none =
     every_moment_from_throughout (HasSuper bytes) mid new calls goes
     (Throughout-super (held_now mid) bytes calls (ap (λ (held : Held). held.supers) (held_now-goes_on old mid (Call.Super bytes true left ∷ []) wrote)) none)
 
--- A block that isn't pending and that no call writes stays, call by call.
-pub Throughout-stays : (held : Held) (calls : List Call) (block : ℕ) (was : Option (List ℕ)) → slice_get held.image block ≡ was → block ≢ 16 → (Contains held.pending block → ⊥) → (Writes calls block → ⊥) → Throughout held calls (λ image. slice_get image block ≡ was)
-Throughout-stays held [] block was is other settled unwritten = λ image leaves. leaves.others block other settled ∙ is
-Throughout-stays held (Call.Write at bytes ok left ∷ calls) block was is other settled unwritten =
-    let apart : Contains (at ∷ held.pending) block → ⊥ = λ pending. elim (Contains-cons_cases at held.pending block pending) [ inl same ↦ unwritten (inl same) | inr among ↦ settled among ] in (
-      λ image leaves. leaves.others block other settled ∙ is,
-      λ image leaves. leaves.others block other apart ∙ is,
-      Throughout-stays (after_call held (Call.Write at bytes ok left)) calls block was
-          (slice_get-set_other held.image at block left (λ same. unwritten (inl (sym same))) ∙ is) other apart (λ written. unwritten (inr written)),
-    )
-Throughout-stays held (Call.Super bytes ok left ∷ calls) block was is other settled unwritten = (
-  λ image leaves. leaves.others block other settled ∙ is,
-  λ image leaves. leaves.others block other settled ∙ is,
-  Throughout-stays (after_call held (Call.Super bytes ok left)) calls block was (slice_get-set_other held.image 16 block left other ∙ is) other settled unwritten,
-)
-Throughout-stays held (Call.Flush true ∷ calls) block was is other settled unwritten = (
-  λ image leaves. leaves.others block other settled ∙ is,
-  λ image leaves. leaves.others block other settled ∙ is,
-  Throughout-stays (after_call held (Call.Flush true)) calls block was is other (Contains-none block) unwritten,
-)
-Throughout-stays held (Call.Flush false ∷ calls) block was is other settled unwritten = (
-  λ image leaves. leaves.others block other settled ∙ is,
-  λ image leaves. leaves.others block other settled ∙ is,
-  Throughout-stays (after_call held (Call.Flush false)) calls block was is other settled unwritten,
-)
-
--- A block that isn't pending and that no call writes stays, at every moment.
-pub EveryMoment-stays : (old new : Told) (calls : List Call) (block : ℕ) → GoesOn old new calls → block ≢ 16 → (Contains (held_now old).pending block → ⊥) → (Writes calls block → ⊥) → EveryMoment old new (λ image. slice_get image block ≡ slice_get (image_now old) block)
-EveryMoment-stays old new calls block goes other settled unwritten =
-    every_moment_from_throughout (λ image. slice_get image block ≡ slice_get (image_now old) block) old new calls goes
-    (Throughout-stays (held_now old) calls block (slice_get (image_now old) block) refl other settled unwritten)
-
--- what a crash may leave, it may leave where more is pending and more superblocks may be found
-pub Leaves-wider : (less more : Held) (image : Image) → length more.image ≡ length less.image → ((at : ℕ) → at ≢ 16 → (Contains more.pending at → ⊥) → slice_get more.image at ≡ slice_get less.image at) → ((at : ℕ) → Contains less.pending at → Contains more.pending at) → ((super : List ℕ) → Contains less.supers super → Contains more.supers super) → Leaves less image → Leaves more image
-Leaves-wider less more image size same pending supers leaves = record {
-  blocks = leaves.blocks;
-  size = leaves.size ∙ sym size;
-  super = supers (slice_index_or image 16 []) leaves.super;
-  others = λ at other settled. leaves.others at other (λ is. settled (pending at is)) ∙ sym (same at other settled);
-}
-
 -- an element of a list is one where another stands in front
 pub Contains-there : {A : Type 0} (y : A) (xs : List A) (x : A) → Contains xs x → Contains (y ∷ xs) x
 Contains-there y xs x (k, within, same) = (suc k, omega (arith, within), same)
@@ -294,31 +262,145 @@ Contains-there y xs x (k, within, same) = (suc k, omega (arith, within), same)
 pub Contains-here : {A : Type 0} (x : A) (xs : List A) → Contains (x ∷ xs) x
 Contains-here x xs = (zero, omega arith, refl)
 
+-- a number of those without one is one of them
+pub without-less : (at : ℕ) (numbers : List ℕ) (k : ℕ) → Contains (without at numbers) k → Contains numbers k
+without-less at [] k among = among
+without-less at (n ∷ ns) k among = tested (n == at) (without-less at ns k) among
+  where
+    tested : (is : Bool) → (Contains (without at ns) k → Contains ns k) → Contains (cond is (without at ns) (n ∷ without at ns)) k → Contains (n ∷ ns) k
+    tested true rest among = Contains-there n ns k (rest among)
+    tested false rest among = elim (Contains-cons_cases n (without at ns) k among) [
+      | inl same ↦ subst (Contains (n ∷ ns)) same (Contains-here n ns)
+      | inr there ↦ Contains-there n ns k (rest there)
+    ]
+
+-- that one isn't
+pub without-none : (at : ℕ) (numbers : List ℕ) → Contains (without at numbers) at → ⊥
+without-none at [] among = Contains-none at among
+without-none at (n ∷ ns) among = tested (n == at) refl (without-none at ns) among
+  where
+    tested : (is : Bool) → (n == at) ≡ is → (Contains (without at ns) at → ⊥) → Contains (cond is (without at ns) (n ∷ without at ns)) at → ⊥
+    tested true eq rest among = rest among
+    tested false eq rest among = elim (Contains-cons_cases n (without at ns) at among) [
+      | inl same ↦ eqb-false n at eq same
+      | inr there ↦ rest there
+    ]
+
+-- each other one is
+pub without-other : (at : ℕ) (numbers : List ℕ) (k : ℕ) → k ≢ at → Contains numbers k → Contains (without at numbers) k
+without-other at [] k other among = among
+without-other at (n ∷ ns) k other among = tested (n == at) refl (without-other at ns k other)
+  where
+    tested : (is : Bool) → (n == at) ≡ is → (Contains ns k → Contains (without at ns) k) → Contains (cond is (without at ns) (n ∷ without at ns)) k
+    tested true eq rest = elim (Contains-cons_cases n ns k among) [
+      | inl same ↦ absurd (other (sym same ∙ eqb-true n at eq))
+      | inr there ↦ rest there
+    ]
+    tested false eq rest = elim (Contains-cons_cases n ns k among) [
+      | inl same ↦ subst (Contains (n ∷ without at ns)) same (Contains-here n (without at ns))
+      | inr there ↦ Contains-there n (without at ns) k (rest there)
+    ]
+
+-- a block that is lost after a write was lost before
+pub lost_before : (at : ℕ) (ok : Bool) (lost : List ℕ) (k : ℕ) → Contains (lost_after at ok lost) k → Contains lost k
+lost_before at true lost k among = without-less at lost k among
+lost_before at false lost k among = among
+
+-- a block that isn't written is settled after a write where it was before
+settled-write : (held : Held) (at : ℕ) (bytes : List ℕ) (ok : Bool) (left : List ℕ) (block : ℕ) → at ≢ block → (IsUnsettled held block → ⊥) → IsUnsettled (after_call held (Call.Write at bytes ok left)) block → ⊥
+settled-write held at bytes ok left block other settled (inl pending) =
+    elim (Contains-cons_cases at held.pending block pending) [ inl same ↦ other same | inr among ↦ settled (inl among) ]
+settled-write held at bytes ok left block other settled (inr lost) = settled (inr (lost_before at ok held.lost block lost))
+
+-- the same while the write runs
+pub settled-writing : (held : Held) (at : ℕ) (bytes : List ℕ) (ok : Bool) (left : List ℕ) (block : ℕ) → at ≢ block → (IsUnsettled held block → ⊥) → IsUnsettled (during_call held (Call.Write at bytes ok left)) block → ⊥
+settled-writing held at bytes ok left block other settled (inl pending) =
+    elim (Contains-cons_cases at held.pending block pending) [ inl same ↦ other same | inr among ↦ settled (inl among) ]
+settled-writing held at bytes ok left block other settled (inr lost) = settled (inr lost)
+
+-- a settled block stays so over a flush, also over one that fails
+settled-flush : (held : Held) (ok : Bool) (block : ℕ) → (IsUnsettled held block → ⊥) → IsUnsettled (after_call held (Call.Flush ok)) block → ⊥
+settled-flush held ok block settled (inl pending) = Contains-none block pending
+settled-flush held true block settled (inr lost) = settled (inr lost)
+settled-flush held false block settled (inr lost) =
+    settled (Contains-append_cases held.pending held.lost block lost)
+
+-- A settled block that no call writes stays, call by call.
+pub Throughout-stays : (held : Held) (calls : List Call) (block : ℕ) (was : Option (List ℕ)) → slice_get held.image block ≡ was → block ≢ 16 → (IsUnsettled held block → ⊥) → (Writes calls block → ⊥) → Throughout held calls (λ image. slice_get image block ≡ was)
+Throughout-stays held [] block was is other settled unwritten = λ image leaves. leaves.others block other settled ∙ is
+Throughout-stays held (Call.Write at bytes ok left ∷ calls) block was is other settled unwritten =
+    let apart : at ≢ block = λ same. unwritten (inl same) in (
+      λ image leaves. leaves.others block other settled ∙ is,
+      λ image leaves. leaves.others block other (settled-writing held at bytes ok left block apart settled) ∙ is,
+      Throughout-stays (after_call held (Call.Write at bytes ok left)) calls block was
+          (slice_get-set_other held.image at block left (λ same. apart (sym same)) ∙ is) other (settled-write held at bytes ok left block apart settled) (λ written. unwritten (inr written)),
+    )
+Throughout-stays held (Call.Super bytes ok left ∷ calls) block was is other settled unwritten = (
+  λ image leaves. leaves.others block other settled ∙ is,
+  λ image leaves. leaves.others block other settled ∙ is,
+  Throughout-stays (after_call held (Call.Super bytes ok left)) calls block was (slice_get-set_other held.image 16 block left other ∙ is) other settled unwritten,
+)
+Throughout-stays held (Call.Flush ok ∷ calls) block was is other settled unwritten = (
+  λ image leaves. leaves.others block other settled ∙ is,
+  λ image leaves. leaves.others block other settled ∙ is,
+  Throughout-stays (after_call held (Call.Flush ok)) calls block was is other (settled-flush held ok block settled) unwritten,
+)
+
+-- A settled block that no call writes stays, at every moment.
+pub EveryMoment-stays : (old new : Told) (calls : List Call) (block : ℕ) → GoesOn old new calls → block ≢ 16 → (IsUnsettled (held_now old) block → ⊥) → (Writes calls block → ⊥) → EveryMoment old new (λ image. slice_get image block ≡ slice_get (image_now old) block)
+EveryMoment-stays old new calls block goes other settled unwritten =
+    every_moment_from_throughout (λ image. slice_get image block ≡ slice_get (image_now old) block) old new calls goes
+    (Throughout-stays (held_now old) calls block (slice_get (image_now old) block) refl other settled unwritten)
+
+-- what a crash may leave, it may leave where fewer blocks are settled and more superblocks may be found
+pub Leaves-wider : (less more : Held) (image : Image) → length more.image ≡ length less.image → ((at : ℕ) → at ≢ 16 → (IsUnsettled more at → ⊥) → slice_get more.image at ≡ slice_get less.image at) → ((at : ℕ) → IsUnsettled less at → IsUnsettled more at) → ((super : List ℕ) → Contains less.supers super → Contains more.supers super) → Leaves less image → Leaves more image
+Leaves-wider less more image size same unsettled supers leaves = record {
+  blocks = leaves.blocks;
+  size = leaves.size ∙ sym size;
+  super = supers (slice_index_or image 16 []) leaves.super;
+  others = λ at other settled. leaves.others at other (λ is. settled (unsettled at is)) ∙ sym (same at other settled);
+}
+
+-- a block that is unsettled before a write of another is so while it runs
+unsettled-writing : (held : Held) (at : ℕ) (bytes : List ℕ) (ok : Bool) (left : List ℕ) (k : ℕ) → IsUnsettled held k → IsUnsettled (during_call held (Call.Write at bytes ok left)) k
+unsettled-writing held at bytes ok left k (inl pending) = inl (Contains-there at held.pending k pending)
+unsettled-writing held at bytes ok left k (inr lost) = inr lost
+
+-- and one that is unsettled after a write was so while it ran
+unsettled-written : (held : Held) (at : ℕ) (bytes : List ℕ) (ok : Bool) (left : List ℕ) (k : ℕ) → IsUnsettled (after_call held (Call.Write at bytes ok left)) k → IsUnsettled (during_call held (Call.Write at bytes ok left)) k
+unsettled-written held at bytes ok left k (inl pending) = inl pending
+unsettled-written held at bytes ok left k (inr lost) = inr (lost_before at ok held.lost k lost)
+
+-- one that is unsettled after a flush was so before
+unsettled-flushed : (held : Held) (ok : Bool) (k : ℕ) → IsUnsettled (after_call held (Call.Flush ok)) k → IsUnsettled held k
+unsettled-flushed held ok k (inl pending) = absurd (Contains-none k pending)
+unsettled-flushed held true k (inr lost) = inr lost
+unsettled-flushed held false k (inr lost) = Contains-append_cases held.pending held.lost k lost
+
 -- what a crash may leave before a call, it may leave while the call runs
 pub Leaves-before : (held : Held) (call : Call) (image : Image) → Leaves held image → Leaves (during_call held call) image
 Leaves-before held (Call.Write at bytes ok left) image leaves =
-    Leaves-wider held (during_call held (Call.Write at bytes ok left)) image refl (λ k other settled. refl) (λ k. Contains-there at held.pending k) (λ super found. found) leaves
+    Leaves-wider held (during_call held (Call.Write at bytes ok left)) image refl (λ k other settled. refl) (unsettled-writing held at bytes ok left) (λ super found. found) leaves
 Leaves-before held (Call.Super bytes ok left) image leaves =
-    Leaves-wider held (during_call held (Call.Super bytes ok left)) image refl (λ k other settled. refl) (λ k pending. pending) (λ super. Contains-there bytes held.supers super) leaves
+    Leaves-wider held (during_call held (Call.Super bytes ok left)) image refl (λ k other settled. refl) (λ k is. is) (λ super. Contains-there bytes held.supers super) leaves
 Leaves-before held (Call.Flush ok) image leaves = leaves
 
 -- what a crash may leave after a call, it may leave while the call runs
 pub Leaves-after : (held : Held) (call : Call) (image : Image) → Leaves (after_call held call) image → Leaves (during_call held call) image
 Leaves-after held (Call.Write at bytes ok left) image leaves =
     Leaves-wider (after_call held (Call.Write at bytes ok left)) (during_call held (Call.Write at bytes ok left)) image (sym (length-set held.image at left))
-    (λ k other settled. sym (slice_get-set_other held.image at k left (λ same. settled (subst (Contains (at ∷ held.pending)) (sym same) (Contains-here at held.pending)))))
-    (λ k pending. pending) (λ super found. found) leaves
+    (λ k other settled. sym (slice_get-set_other held.image at k left (λ same. settled (inl (subst (Contains (at ∷ held.pending)) (sym same) (Contains-here at held.pending))))))
+    (unsettled-written held at bytes ok left) (λ super found. found) leaves
 Leaves-after held (Call.Super bytes true left) image leaves =
     Leaves-wider (after_call held (Call.Super bytes true left)) (during_call held (Call.Super bytes true left)) image (sym (length-set held.image 16 left))
     (λ k other settled. sym (slice_get-set_other held.image 16 k left other))
-    (λ k pending. pending) (λ super found. subst (Contains (bytes ∷ held.supers)) (sym (Contains-single bytes super found)) (Contains-here bytes held.supers)) leaves
+    (λ k is. is) (λ super found. subst (Contains (bytes ∷ held.supers)) (sym (Contains-single bytes super found)) (Contains-here bytes held.supers)) leaves
 Leaves-after held (Call.Super bytes false left) image leaves =
     Leaves-wider (after_call held (Call.Super bytes false left)) (during_call held (Call.Super bytes false left)) image (sym (length-set held.image 16 left))
     (λ k other settled. sym (slice_get-set_other held.image 16 k left other))
-    (λ k pending. pending) (λ super found. found) leaves
-Leaves-after held (Call.Flush true) image leaves =
-    Leaves-wider (after_call held (Call.Flush true)) held image refl (λ k other settled. refl) (λ k none. absurd (Contains-none k none)) (λ super found. found) leaves
-Leaves-after held (Call.Flush false) image leaves = leaves
+    (λ k is. is) (λ super found. found) leaves
+Leaves-after held (Call.Flush ok) image leaves =
+    Leaves-wider (after_call held (Call.Flush ok)) held image refl (λ k other settled. refl) (unsettled-flushed held ok) (λ super found. found) leaves
 
 -- one call: what holds of each image that a crash may leave while it runs holds at every moment of it
 pub EveryMoment-one_call : (P : Image → Type 0) (old new : Told) (ok : Bool) (call : Call) → Continues (Some old) (Some new) ok call → ((image : Image) → Leaves (during_call (held_now old) call) image → P image) → EveryMoment old new P
@@ -336,3 +418,113 @@ AtEveryMoment-one_call P None (Some new) false call goes during = absurd goes
 AtEveryMoment-one_call P (Some old) None true call goes during = absurd goes
 AtEveryMoment-one_call P (Some old) None false call goes during = absurd goes
 AtEveryMoment-one_call P (Some old) (Some new) ok call goes during = EveryMoment-one_call P old new ok call goes during
+
+-- ---- what calls settle
+
+-- a block reads as these bytes, and isn't lost
+record IsKept (held : Held) (block : ℕ) (bytes : List ℕ) : Type 0 where
+  is : slice_get held.image block ≡ Some bytes
+  kept : Contains held.lost block → ⊥
+
+kept-unflushed : (held : Held) (calls : List Call) (block : ℕ) (bytes : List ℕ) → block ≢ 16 → HasNoFlush calls → (Writes calls block → ⊥) → IsKept held block bytes → IsKept (after_calls held calls) block bytes
+kept-unflushed held [] block bytes other none unwritten kept = kept
+kept-unflushed held (Call.Write at data_ ok left ∷ calls) block bytes other none unwritten kept =
+    kept-unflushed (after_call held (Call.Write at data_ ok left)) calls block bytes other none (λ later. unwritten (inr later)) (record {
+      is = slice_get-set_other held.image at block left (λ same. unwritten (inl (sym same))) ∙ kept.is;
+      kept = λ lost. kept.kept (lost_before at ok held.lost block lost);
+    })
+kept-unflushed held (Call.Super data_ ok left ∷ calls) block bytes other none unwritten kept =
+    kept-unflushed (after_call held (Call.Super data_ ok left)) calls block bytes other none unwritten (record {
+      is = slice_get-set_other held.image 16 block left other ∙ kept.is;
+      kept = kept.kept;
+    })
+kept-unflushed held (Call.Flush ok ∷ calls) block bytes other none unwritten kept = absurd none
+
+-- a block reads as these bytes, and is settled
+record IsSettled (held : Held) (block : ℕ) (bytes : List ℕ) : Type 0 where
+  is : slice_get held.image block ≡ Some bytes
+  settled : IsUnsettled held block → ⊥
+
+settled-stays : (held : Held) (calls : List Call) (block : ℕ) (bytes : List ℕ) → block ≢ 16 → (Writes calls block → ⊥) → IsSettled held block bytes → IsSettled (after_calls held calls) block bytes
+settled-stays held [] block bytes other unwritten settled = settled
+settled-stays held (Call.Write at data_ ok left ∷ calls) block bytes other unwritten settled =
+    settled-stays (after_call held (Call.Write at data_ ok left)) calls block bytes other (λ later. unwritten (inr later)) (record {
+      is = slice_get-set_other held.image at block left (λ same. unwritten (inl (sym same))) ∙ settled.is;
+      settled = settled-write held at data_ ok left block (λ same. unwritten (inl same)) settled.settled;
+    })
+settled-stays held (Call.Super data_ ok left ∷ calls) block bytes other unwritten settled =
+    settled-stays (after_call held (Call.Super data_ ok left)) calls block bytes other unwritten (record {
+      is = slice_get-set_other held.image 16 block left other ∙ settled.is;
+      settled = settled.settled;
+    })
+settled-stays held (Call.Flush ok ∷ calls) block bytes other unwritten settled =
+    settled-stays (after_call held (Call.Flush ok)) calls block bytes other unwritten (record { is = settled.is; settled = settled-flush held ok block settled.settled })
+
+-- the number of blocks stays
+after_call-length : (held : Held) (call : Call) → length (after_call held call).image ≡ length held.image
+after_call-length held (Call.Write at bytes ok left) = length-set held.image at left
+after_call-length held (Call.Super bytes ok left) = length-set held.image 16 left
+after_call-length held (Call.Flush ok) = refl
+
+pub after_calls-length : (held : Held) (calls : List Call) → length (after_calls held calls).image ≡ length held.image
+after_calls-length held [] = refl
+after_calls-length held (call ∷ calls) = after_calls-length (after_call held call) calls ∙ after_call-length held call
+
+-- calls settle a block as they say
+settled_by : (held : Held) (calls : List Call) (block : ℕ) (bytes : List ℕ) → block ≢ 16 → block < length held.image → Settles calls block bytes → IsSettled (after_calls held calls) block bytes
+settled_by held calls block bytes other within by =
+    let start : Held = after_calls held by.before in
+    let wrote : Held = after_call start (Call.Write block bytes true bytes) in
+    let flushed : Held = after_calls wrote by.between in
+    let begun : IsKept wrote block bytes = record {
+      is = slice_get-set_same start.image block bytes (omega (arith, within, after_calls-length held by.before));
+      kept = λ lost. without-none block start.lost lost;
+    } in
+    let kept : IsKept flushed block bytes = kept-unflushed wrote by.between block bytes other by.unflushed by.unwritten_before begun in
+    let settled : IsSettled (after_call flushed (Call.Flush true)) block bytes = record { is = kept.is; settled = λ is. kept.kept (unsettled_after_flush flushed true block is) } in
+    let whole : after_calls held calls ≡ after_calls (after_call flushed (Call.Flush true)) by.after = ap (λ (all : List Call). after_calls held all) by.are
+    ∙ after_calls-append held by.before (Call.Write block bytes true bytes ∷ (by.between ++ Call.Flush true ∷ by.after))
+    ∙ after_calls-append wrote by.between (Call.Flush true ∷ by.after) in
+    subst (λ (now : Held). IsSettled now block bytes) (sym whole) (settled-stays (after_call flushed (Call.Flush true)) by.after block bytes other by.unwritten_after settled)
+
+-- A block that calls settled, and that no later call writes, has its bytes at every later moment.
+pub EveryMoment-settled : (old mid new : Told) (calls later_calls : List Call) (block : ℕ) (bytes : List ℕ) → GoesOn old mid calls → GoesOn mid new later_calls → Settles calls block bytes → (Writes later_calls block → ⊥) → block ≢ 16 → block < length (image_now old)
+    → EveryMoment mid new (λ image. slice_get image block ≡ Some bytes)
+EveryMoment-settled old mid new calls later_calls block bytes goes more by unwritten other within =
+    let now : IsSettled (held_now mid) block bytes = subst (λ (held : Held). IsSettled held block bytes) (sym (held_now-goes_on old mid calls goes)) (settled_by (held_now old) calls block bytes other within by) in
+    every_moment_from_throughout (λ image. slice_get image block ≡ Some bytes) mid new later_calls more
+    (Throughout-stays (held_now mid) later_calls block (Some bytes) now.is other now.settled unwritten)
+
+-- ---- what a failed flush loses
+
+lost-stays : (held : Held) (calls : List Call) (block : ℕ) → (Writes calls block → ⊥) → Contains held.lost block → Contains (after_calls held calls).lost block
+lost-stays held [] block unwritten lost = lost
+lost-stays held (Call.Write at bytes true left ∷ calls) block unwritten lost =
+    lost-stays (after_call held (Call.Write at bytes true left)) calls block (λ later. unwritten (inr later)) (without-other at held.lost block (λ same. unwritten (inl (sym same))) lost)
+lost-stays held (Call.Write at bytes false left ∷ calls) block unwritten lost =
+    lost-stays (after_call held (Call.Write at bytes false left)) calls block (λ later. unwritten (inr later)) lost
+lost-stays held (Call.Super bytes ok left ∷ calls) block unwritten lost = lost-stays (after_call held (Call.Super bytes ok left)) calls block unwritten lost
+lost-stays held (Call.Flush true ∷ calls) block unwritten lost = lost-stays (after_call held (Call.Flush true)) calls block unwritten lost
+lost-stays held (Call.Flush false ∷ calls) block unwritten lost =
+    lost-stays (after_call held (Call.Flush false)) calls block unwritten (Contains-append_right held.pending held.lost block lost)
+
+-- What was pending at a failed flush is lost until it is written again, whatever other calls answer.
+pub lost_after_flush : (old mid new : Told) (calls : List Call) (block : ℕ) → GoesOn old mid (Call.Flush false ∷ []) → GoesOn mid new calls → (Writes calls block → ⊥) → Contains (held_now old).pending block → Contains (held_now new).lost block
+lost_after_flush old mid new calls block failed goes unwritten pending =
+    let now : Contains (held_now mid).lost block = subst (λ (held : Held). Contains held.lost block) (sym (held_now-goes_on old mid (Call.Flush false ∷ []) failed)) (Contains-append_left (held_now old).pending (held_now old).lost block pending) in
+    subst (λ (held : Held). Contains held.lost block) (sym (held_now-goes_on mid new calls goes)) (lost-stays (held_now mid) calls block unwritten now)
+
+-- what a read of any block gives
+pub known_read : (seen : Option Image) (lost : List ℕ) (block : ℕ) (bytes : List ℕ) → ReadGives seen lost block bytes → IfTold (known seen lost) (λ image. slice_get image block ≡ Some bytes)
+known_read None [] block bytes gives = tt
+known_read (Some image) [] block bytes gives = gives (Contains-none block)
+known_read seen (at ∷ lost) block bytes gives = tt
+
+-- what holds of what a read gives holds where no block is lost
+pub known_told : (seen : Option Image) (lost : List ℕ) (P : Image → Type 0) → IfTold seen P → IfTold (known seen lost) P
+known_told seen [] P holds = holds
+known_told seen (at ∷ lost) P holds = tt
+
+-- what a read gives stays
+pub known_same : (before after : Option Image) (lost lost' : List ℕ) → after ≡ before → lost' ≡ lost → known after lost' ≡ known before lost
+known_same before after lost lost' seen same = ap (λ (image : Option Image). known image lost') seen ∙ ap (known before) same
