@@ -1,6 +1,8 @@
 -- Which image stands for which volume.
 use Rattle.std.specs.Prelude.{◌≡◌, ◌≤◌, ◌-◌, ◌/◌, ℕ, List, [], ◌∷◌, ◌++◌, length, map, All, slice_get, slice_index_or}
 use Rattle.std.specs.FinMap.{entries}
+use Rattle.blk_base.specs.declared.format.TheConstants.{BLOCK_SIZE, SUPER_BLOCK}
+use Rattle.blk_base.specs.declared.limits.TheConstants.{MOST_SUBS}
 use Rattle.blk_base.specs.Bytes.{zeros}
 use Rattle.blk_base.specs.Address.{IsAllowed}
 use Rattle.blk_base.specs.Leaf.{Item}
@@ -14,11 +16,11 @@ use Rattle.volume_image.specs.Subvolume.{Data, AreItemsOf, data_addresses}
 
 -- the block of the superblock; a disk without it counts as zeros there ("Superblock")
 abbrev pub super_block : Image → List ℕ
-super_block image = slice_index_or image 16 (zeros 4096)
+super_block image = slice_index_or image SUPER_BLOCK (zeros BLOCK_SIZE)
 
 -- what stands at the byte address of a data block
 abbrev pub data_of : Image → Data
-data_of image at = slice_get image (at / 4096)
+data_of image at = slice_get image (at / BLOCK_SIZE)
 
 -- A subvolume's tree has its items, and its data blocks have addresses that are allowed; all of these addresses are its reach.
 pub record IsSubvolumeAt (image : Image) (super : SuperValue) (id : ℕ) (root : RootValue) (sub : Subvolume) (reach : List ℕ) : Type 0 where
@@ -44,7 +46,7 @@ pub record IsCommitted (image : Image) (super : SuperValue) (volume : Volume) (r
   pub sub_reach : List ℕ
   pub root_tree : IsTree image super.blocks (root_want super) items root_reach
   pub least : 1 ≤ length roots
-  pub most : length roots ≤ 16
+  pub most : length roots ≤ MOST_SUBS
   pub root_items : AreRootItems items (subvolume_ids (length roots)) roots
   pub ids : map (λ (entry : ℕ × Subvolume). entry.0) (entries volume) ≡ subvolume_ids (length roots)
   pub subvolumes : AreSubvolumesAt image super roots (entries volume) sub_reach
@@ -81,5 +83,5 @@ pub record Stands (image : Image) (volume : Volume) : Type 0 where
 -- two images have the same superblock, the same number of blocks, and the same block at each of these addresses
 pub record AgreesOn (reach : List ℕ) (one two : Image) : Type 0 where
   pub size : length one ≡ length two
-  pub super : slice_get one 16 ≡ slice_get two 16
-  pub blocks : All (λ at. slice_get one (at / 4096) ≡ slice_get two (at / 4096)) reach
+  pub super : slice_get one SUPER_BLOCK ≡ slice_get two SUPER_BLOCK
+  pub blocks : All (λ at. slice_get one (at / BLOCK_SIZE) ≡ slice_get two (at / BLOCK_SIZE)) reach

@@ -3,6 +3,7 @@ use Rattle.std.specs.Prelude.{◌≡◌, ◌≢◌, ◌≤◌, ◌<◌, ◌+◌,
 use Rattle.std.specs.List.{flat_map}
 use Rattle.std.specs.List.Sorted.{IsPermutation}
 use Rattle.std.specs.FinMap.{get, len, entries}
+use Rattle.blk_base.specs.declared.format.TheConstants.{BLOCK_SIZE, FIRST_FREE}
 use Rattle.blk_base.specs.declared.key.Key.{Key}
 use Rattle.blk_base.specs.declared.fault.ItemFault.{ItemFault}
 use Rattle.blk_base.specs.Crc.{name_hash_of, extref_hash_of}
@@ -41,7 +42,7 @@ size_of sub ino (LinkInode link) = length link.target
 
 -- the bytes of a file's data blocks, a target's length, and 0 of a directory
 abbrev pub nbytes_of : InodeRecord → ℕ
-nbytes_of (FileInode file) = 4096 * len file.blocks
+nbytes_of (FileInode file) = BLOCK_SIZE * len file.blocks
 nbytes_of (DirInode dir) = 0
 nbytes_of (LinkInode link) = length link.target
 
@@ -67,7 +68,7 @@ ref_of name = record { index = name.index; name = name.bytes }
 
 -- the root directory's one name for itself
 abbrev pub own_refs : ℕ → ℕ → List RefValue
-own_refs ino parent = if nat_eq ino 256 && nat_eq parent 256 then record { index = 0; name = dots } ∷ [] else []
+own_refs ino parent = if nat_eq ino FIRST_FREE && nat_eq parent FIRST_FREE then record { index = 0; name = dots } ∷ [] else []
 
 -- the near names of an inode in a directory, and for inode 256 the `..` of itself
 abbrev pub refs_asked : Subvolume → ℕ → ℕ → List RefValue
@@ -125,12 +126,12 @@ pub record HasEntries (kind : ℕ) (bytes : List ℕ) (asked : List EntryValue) 
 
 -- each block of a run of so many blocks has the bytes of the file's block of its number
 abbrev pub RunHolds : Data → FileRecord → ℕ → ℕ → ℕ → Type 0
-RunHolds blocks file number at count = (i : ℕ) → i < count → (block : List ℕ) × (blocks (at + 4096 * i) ≡ Some block) × (get file.blocks (number + i) ≡ Some block)
+RunHolds blocks file number at count = (i : ℕ) → i < count → (block : List ℕ) × (blocks (at + BLOCK_SIZE * i) ≡ Some block) × (get file.blocks (number + i) ≡ Some block)
 
 -- an extent item of a file is a run of its blocks, of a symlink its target; a directory has none
 abbrev pub IsExtentOf : Data → InodeRecord → Key → List ℕ → Type 0
 IsExtentOf blocks (FileInode file) key bytes =
-    (at : ℕ) × (len : ℕ) × IsExtent key bytes (Regular at 0 len) × RunHolds blocks file (key.offset / 4096) at (len / 4096)
+    (at : ℕ) × (len : ℕ) × IsExtent key bytes (Regular at 0 len) × RunHolds blocks file (key.offset / BLOCK_SIZE) at (len / BLOCK_SIZE)
 IsExtentOf blocks (DirInode dir) key bytes = ⊥
 IsExtentOf blocks (LinkInode link) key bytes = IsExtent key bytes (Inline link.target)
 
@@ -170,8 +171,8 @@ pub record CoversBlock (items : List Item) (ino number : ℕ) : Type 0 where
   pub offset : ℕ
   pub bytes : List ℕ
   pub there : Contains items (make_key ino extent_data offset, bytes)
-  pub from : offset ≤ 4096 * number
-  pub to : 4096 * number < offset + extent_len (make_key ino extent_data offset) bytes
+  pub from : offset ≤ BLOCK_SIZE * number
+  pub to : BLOCK_SIZE * number < offset + extent_len (make_key ino extent_data offset) bytes
 
 -- The items of a tree, with the data blocks that its extents lead to, are those of this subvolume: each item is asked for, and all that is asked for is there.
 pub record AreItemsOf (items : List Item) (blocks : Data) (sub : Subvolume) : Type 0 where
@@ -191,14 +192,14 @@ pub record AreItemsOf (items : List Item) (blocks : Data) (sub : Subvolume) : Ty
 -- the byte addresses of a run of so many blocks
 abbrev pub run_addresses : ℕ → ℕ → List ℕ
 run_addresses at zero = []
-run_addresses at (suc count) = at ∷ run_addresses (at + 4096) count
+run_addresses at (suc count) = at ∷ run_addresses (at + BLOCK_SIZE) count
 
 -- the byte addresses of the data blocks that an item leads to
 abbrev pub item_addresses : Item → List ℕ
 item_addresses item = if item.0.kind == extent_data then addresses_of (extent_of item.0 item.1) else []
   where
     addresses_of : Result ExtentValue ItemFault → List ℕ
-    addresses_of (Ok (Regular at offset len)) = run_addresses at (len / 4096)
+    addresses_of (Ok (Regular at offset len)) = run_addresses at (len / BLOCK_SIZE)
     addresses_of other = []
 
 -- those that all items lead to

@@ -2,6 +2,7 @@
 use Rattle.std.specs.Prelude.{◌≡◌, ◌≤◌, ◌/◌, ℕ, zero, suc, Bool, true, false, ◌&&◌, not, nat_lt, ◌==◌, List, [], ◌∷◌, ◌++◌, length, Option, Some, None, Result, Ok, Err, Contains, slice_index_or, if◌then◌else◌}
 use Rattle.std.specs.List.{list_any}
 use Rattle.std.specs.Ordering.{is_eq}
+use Rattle.blk_base.specs.declared.format.TheConstants.{BLOCK_SIZE, MAX_LEVEL}
 use Rattle.blk_base.specs.declared.key.Key.{Key}
 use Rattle.blk_base.specs.declared.key.Want.{Want}
 use Rattle.blk_base.specs.declared.fault.BlockFault.{BlockFault}
@@ -16,7 +17,7 @@ pub use Rattle.blk_base.specs.Trees.{NoneTwice, AreApart, ItemsRise, first_key, 
 
 -- the bytes of the block at a byte address; none outside the image
 abbrev pub block_of : Image → ℕ → List ℕ
-block_of image at = slice_index_or image (at / 4096) []
+block_of image at = slice_index_or image (at / BLOCK_SIZE) []
 
 -- A block on this level and those below it: a leaf holds the items; a node's children are subtrees whose first keys are the pointers' keys.
 abbrev pub IsSubtree : ℕ → Image → ℕ → Bool → Want → List Item → List ℕ → Type 0
@@ -30,7 +31,7 @@ IsSubtree (suc level) image blocks is_root want items reach =
 
 -- In a volume of so many blocks, the tree whose root is this one has these items in order and reaches these byte addresses.
 pub record IsTree (image : Image) (blocks : ℕ) (want : Want) (items : List Item) (reach : List ℕ) : Type 0 where
-  pub low : want.level ≤ 7
+  pub low : want.level ≤ MAX_LEVEL
   pub shape : IsSubtree want.level image blocks true want items reach
   pub order : ItemsRise items
   pub once : NoneTwice reach
@@ -93,7 +94,7 @@ abbrev pub entered : {A : Type 0} → ℕ → Want → Walked → Result A LoadF
 entered blocks want before rest =
     if not (is_allowed blocks want.at.0) then Err (Outside want.at) else
     if was_reached want.at.0 before.reached then Err (Twice want.at) else
-    if nat_lt 7 want.level then Err (Level want.at) else rest
+    if nat_lt MAX_LEVEL want.level then Err (Level want.at) else rest
 
 -- what is met at this block and below, after what was met before; `under` is the key of the pointer to it, if it is no root
 abbrev pub walk_from : ℕ → Image → ℕ → Option Key → Want → Walked → Result Walked LoadFault
