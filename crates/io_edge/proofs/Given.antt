@@ -1,9 +1,9 @@
 -- What a source has given, piece behind piece.
 use Rattle.std.proofs.Common.{◌≡◌, ◌≤◌, ◌++◌, [], ℕ, List, length, take, Option, Some, None, Result, Ok, Err, refl, sym, ap, ◌∙◌, append_assoc, length-append, arith}
 use Rattle.std.proofs.lemmas.List.{length-take}
-use Rattle.script_source.specs.declared.reading.ReadFault.{ReadFault}
-use Rattle.script_source.specs.declared.reading.ReadFault.TheVariants.{Failed, OutOfMemory}
-use Rattle.script_source.specs.Reading.{HasGiven}
+use Rattle.io_edge.specs.declared.reading.ReadFault.{ReadFault}
+use Rattle.io_edge.specs.declared.reading.ReadFault.TheVariants.{Failed, OutOfMemory}
+use Rattle.io_edge.specs.Reading.{HasGiven}
 use Rattle.io_edge.specs.Edge.{Gives}
 
 pub Gives-none : (left : Option (List ℕ)) → Gives left [] left
@@ -32,7 +32,7 @@ unfolding taken_of
 taken_same A one two same = ap taken_of same
 
 -- one byte more than are read
-pub one_more : (old mid new : Option (List ℕ)) (bytes part : List ℕ) (count : ℕ) → length bytes ≡ 16777216 → count ≤ 1 → (count ≡ 0 → ⊥) → length part ≡ 1 → Gives old bytes mid → Gives mid (take count part) new → HasGiven old 16777217 new
+pub one_more : (old mid new : Option (List ℕ)) (bytes part : List ℕ) (count : ℕ) → length bytes ≡ 16777216 → count ≤ 1 → (count ≡ 0 → ⊥) → length part ≡ 1 → Gives old bytes mid → Gives mid (take count part) new → HasGiven old (16777216 + 1) new
 one_more old mid new bytes part count long few some one first second =
     let length_is : length (take count part) ≡ 1 = omega (arith, some, length-take count part) in
     (bytes ++ take count part, omega (arith, length-append bytes (take count part), length_is), Gives-joins old mid new bytes (take count part) first second)

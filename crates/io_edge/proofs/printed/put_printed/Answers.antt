@@ -2,8 +2,8 @@ use Rattle.std.proofs.Common.{◌≤◌, length, ap, subst, List, ℕ, take_all,
 use Rattle.std.specs.List.{flat_map}
 use Rattle.io_edge.specs.Edge.{Takes}
 use Rattle.io_edge.proofs.Sinks.{TakesFront-at, on_err}
-use Rattle.volume_listing.specs.Listing.{printed_byte, printed}
-use Rattle.script_answer.proofs.bytes.put_printed.Goals as goal
+use Rattle.io_edge.specs.Printed.{printed_byte, printed}
+use Rattle.io_edge.proofs.printed.put_printed.Goals as goal
 
 pub returns-in_err-put_byte-clause-front : goal.returns-in_err-put_byte-clause-front
 unfolding printed

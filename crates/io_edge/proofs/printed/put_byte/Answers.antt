@@ -1,7 +1,7 @@
 use Rattle.std.proofs.Common.{List, ℕ, OnOk, OnErr, sym, ◌∙◌, subst}
 use Rattle.io_edge.specs.Edge.{Takes, TakesFront}
-use Rattle.script_answer.proofs.Printed.{printed_plain, printed_escaped}
-use Rattle.script_answer.proofs.bytes.put_byte.Goals as goal
+use Rattle.io_edge.proofs.PrintedBytes.{printed_plain, printed_escaped}
+use Rattle.io_edge.proofs.printed.put_byte.Goals as goal
 
 pub returns-then-is_plain-clause-whole : goal.returns-then-is_plain-clause-whole
 returns-then-is_plain-clause-whole g c =

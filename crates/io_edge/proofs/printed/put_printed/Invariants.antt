@@ -1,8 +1,8 @@
 use Rattle.std.proofs.Common.{◌≤◌, take}
 use Rattle.std.specs.List.{flat_map}
 use Rattle.io_edge.specs.Edge.{Takes}
-use Rattle.volume_listing.specs.Listing.{printed_byte}
-use Rattle.script_answer.proofs.bytes.put_printed.Given as goal
+use Rattle.io_edge.specs.Printed.{printed_byte}
+use Rattle.io_edge.proofs.printed.put_printed.Given as goal
 
 abbrev pub invariant-loop-place : goal.invariant-loop-place
 invariant-loop-place g l = record {
