@@ -7,6 +7,7 @@
 //! others, and that no block is lost by it.
 #![tactic(auto)]
 
+pub mod change;
 pub mod edits;
 pub mod frame;
 pub mod gives;
