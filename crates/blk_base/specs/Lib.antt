@@ -11,3 +11,4 @@ pub mod Entries
 pub mod Extents
 pub mod Trees
 pub mod Causes
+pub mod ItemFaults

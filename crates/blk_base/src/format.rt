@@ -168,19 +168,26 @@ pub const DOTS: &[u8] = b"..";
 /// The most bytes of a name ("DIR_ITEM": name_len; `BTRFS_NAME_LEN`).
 pub const MOST_NAME_BYTES: usize = 255;
 
-#[cfg(test)]
-mod tests {
-    use super::*;
+// ---- what follows from what
 
-    #[test]
-    fn constants_fit_each_other(rt: HostRuntime) {
-        assert_eq!(rt; SUPER_AT, u64::from(SUPER_BLOCK) * BLOCK_SIZE);
-        assert_eq!(rt; LEAF_BYTES + HEADER_SIZE, BLOCK_SIZE as usize);
-        assert_eq!(rt; MOST_ITEM_BYTES + ITEM_HEADER_SIZE, LEAF_BYTES);
-        assert_eq!(rt; MOST_ITEMS, LEAF_BYTES / ITEM_HEADER_SIZE);
-        assert_eq!(rt; MOST_POINTERS, LEAF_BYTES / POINTER_SIZE);
-        assert_eq!(rt; TREE_LOG, u64::MAX - 5);
-        assert_eq!(rt; TREE_LOG_FIXUP, u64::MAX - 6);
-        assert_eq!(rt; CHECKSUMS, u64::MAX - 9);
-    }
-}
+const _: () = prove!(SUPER_AT == SUPER_BLOCK as u64 * BLOCK_SIZE);
+
+const _: () = prove!(FIRST_BLOCK == SUPER_BLOCK + 1);
+
+const _: () = prove!(LEAF_BYTES == BLOCK_SIZE as usize - HEADER_SIZE);
+
+const _: () = prove!(MOST_ITEM_BYTES == LEAF_BYTES - ITEM_HEADER_SIZE);
+
+const _: () = prove!(MOST_ITEMS == LEAF_BYTES / ITEM_HEADER_SIZE);
+
+const _: () = prove!(MOST_POINTERS == LEAF_BYTES / POINTER_SIZE);
+
+const _: () = prove!(PROFILE_FLAGS == 1 << 63);
+
+const _: () = prove!(HEADER_FLAGS == 1 + (1 << 56));
+
+const _: () = prove!(TREE_LOG == u64::MAX - 5);
+
+const _: () = prove!(TREE_LOG_FIXUP == u64::MAX - 6);
+
+const _: () = prove!(CHECKSUMS == u64::MAX - 9);

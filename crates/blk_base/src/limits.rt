@@ -63,3 +63,9 @@ pub const MOST_LINES: u32 = 65_536;
 
 /// The most callers of a script, who have the numbers from 1 on (own).
 pub const MOST_CALLERS: u64 = 16;
+
+// ---- what follows from what
+
+const _: () = prove!(SPENT_NUMBER == 1 << 62);
+
+const _: () = prove!(GREATEST_NUMBER == SPENT_NUMBER + 1);

@@ -16,9 +16,9 @@ use Rattle.script_text.specs.declared.fault.ScriptFault.{ScriptFault}
 use Rattle.script_text.specs.declared.fault.ScriptFault.TheVariants as script_faults
 use Rattle.script_text.specs.Kinds as kinds
 use Rattle.script_text.specs.Script.{script_of}
-use Rattle.script_source.specs.declared.reading.ReadFault.{ReadFault}
-use Rattle.script_source.specs.declared.reading.ReadFault.TheVariants as source_faults
-use Rattle.script_source.specs.Reading.{HasGiven, HasGivenSome, IsTooLong}
+use Rattle.io_edge.specs.declared.reading.ReadFault.{ReadFault}
+use Rattle.io_edge.specs.declared.reading.ReadFault.TheVariants as source_faults
+use Rattle.io_edge.specs.Reading.{HasGiven, HasGivenSome, IsTooLong}
 use Rattle.leaf_run.specs.declared.run.LeafRun.{LeafRun}
 use Rattle.leaf_run.specs.Begun.{FindsWholeVolume}
 use Rattle.leaf_run.specs.Run.{AreCalls, Kept, RunLeaves, State, state_after, state_of}

@@ -1,0 +1,4 @@
+pub mod Giving
+pub mod Editing
+pub mod Volumes
+pub mod States
