@@ -71,12 +71,12 @@ module _ (run : RunSub) (rows : List ℕ → List (Bool × Answer)) (done : List
   }
 
 -- rows and one more
-abbrev with_last : List (Bool × Answer) → Bool × Answer → List (Bool × Answer)
+abbrev pub with_last : List (Bool × Answer) → Bool × Answer → List (Bool × Answer)
 with_last [] last = last ∷ []
 with_last (row ∷ rows) last = row ∷ with_last rows last
 
 -- one answer, where the last rows are one once no row before them holds
-same_last : (rows : List (Bool × Answer)) (one two : Bool) (answer : Answer) → (NoneHolds rows → one ≡ two) → first_answer (with_last rows (one, answer)) ≡ first_answer (with_last rows (two, answer))
+pub same_last : (rows : List (Bool × Answer)) (one two : Bool) (answer : Answer) → (NoneHolds rows → one ≡ two) → first_answer (with_last rows (one, answer)) ≡ first_answer (with_last rows (two, answer))
 same_last [] one two answer same = ap (λ b. cond b (Some answer) None) (same tt)
 same_last (row ∷ rows) one two answer same =
     elim (row.0) as (λ b. row.0 ≡ b → cond b (Some row.1) (first_answer (with_last rows (one, answer))) ≡ cond b (Some row.1) (first_answer (with_last rows (two, answer)))) [
@@ -128,7 +128,7 @@ module _ (run : RunSub) (sound : IsSound run) where
       (λ none. (next_index_first run sound (dir_of to), tt))
 
   -- the names that are left for rename are a set, and have none in the new place's slot
-  stays_free : (new : List (List ℕ)) (from : WalkEnd) (dir : ℕ) (bytes : List ℕ) (there : Option FlatName) → walk run.sub new ≡ AtSlot dir bytes there
+  pub stays_free : (new : List (List ℕ)) (from : WalkEnd) (dir : ℕ) (bytes : List ℕ) (there : Option FlatName) → walk run.sub new ≡ AtSlot dir bytes there
       → (is_name_set (names_without (without_entry run.sub (AtSlot dir bytes there)).names from) ≡ true) × IsFreeIn (names_without (without_entry run.sub (AtSlot dir bytes there)).names from) dir bytes
   stays_free new from dir bytes None at = (
     names_without_set run.sub.names from sound.coherent.in_order,

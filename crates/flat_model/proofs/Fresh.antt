@@ -28,7 +28,7 @@ abbrev pub NoneHolds : List (Bool × Answer) → Type 0
 NoneHolds [] = Unit {0}
 NoneHolds (row ∷ rows) = (row.0 ≡ false) × NoneHolds rows
 
-no_answer : (rows : List (Bool × Answer)) → first_answer rows ≡ None → NoneHolds rows
+pub no_answer : (rows : List (Bool × Answer)) → first_answer rows ≡ None → NoneHolds rows
 no_answer [] e = tt
 no_answer (row ∷ rows) e =
     elim (row.0) as (λ b. row.0 ≡ b → cond b (Some row.1) (first_answer rows) ≡ None → (row.0 ≡ false) × NoneHolds rows) [

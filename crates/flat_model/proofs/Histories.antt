@@ -38,7 +38,7 @@ pub get_volume_of : (run : RunVolume) (id : ℕ) → get (volume_of run) id ≡ 
 unfolding volume_of
 get_volume_of run id = get_map (λ (sub : RunSub). sub.sub) run id
 
-map_there : {X Y : Type 0} (f : X → Y) (o : Option X) (y : Y) → option_map f o ≡ Some y → (x : X) × (o ≡ Some x) × (y ≡ f x)
+pub map_there : {X Y : Type 0} (f : X → Y) (o : Option X) (y : Y) → option_map f o ≡ Some y → (x : X) × (o ≡ Some x) × (y ≡ f x)
 map_there f None y e = absurd (some_none y (sym e))
 map_there f (Some x) y e = (x, refl, some_same y (f x) (sym e))
 
