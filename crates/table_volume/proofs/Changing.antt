@@ -1,6 +1,6 @@
 -- A change of some names and inodes leaves every item that tells of none of them as the subvolume asks for it.
-use Rattle.std.proofs.Common.{◌≡◌, ◌≢◌, ◌≤◌, ◌<◌, ◌+◌, ◌*◌, ℕ, Bool, true, false, not, ◌&&◌, ◌||◌, List, [], ◌∷◌, ◌++◌, length, map, Option, Some, None, refl, sym, ap, ◌∙◌, subst, inl, inr}
-use Rattle.std.specs.Prelude.{◌==◌, ◌⊎◌, All, Contains, IsSome, filter, nat_eq}
+use Rattle.std.proofs.Common.{◌≡◌, ◌+◌, ◌*◌, ℕ, Bool, true, false, not, ◌&&◌, ◌||◌, List, [], ◌∷◌, ◌++◌, length, map, Option, Some, refl, sym, ap, ◌∙◌, subst, inl, inr}
+use Rattle.std.specs.Prelude.{◌==◌, All, Contains, IsSome, filter, nat_eq}
 use Rattle.std.specs.List.{list_any, sum_by}
 use Rattle.std.specs.List.Sorted.{IsPermutation}
 use Rattle.std.specs.FinMap.{get}
@@ -10,17 +10,16 @@ use Rattle.std.proofs.lemmas.List.Folds.{list_any_none}
 use Rattle.std.proofs.lemmas.List.Elements.{All-contains, All-contains_itself, All-weaker}
 use Rattle.blk_base.specs.declared.key.Key.{Key}
 use Rattle.blk_base.specs.Crc.{extref_hash_of, name_hash_of}
-use Rattle.blk_base.specs.Entries.{EntryValue, ExtRefValue, RefValue}
 use Rattle.blk_base.specs.Keys.{dir_index, dir_item, extent_data, inode_extref, inode_item, inode_ref, xattr_item}
 use Rattle.blk_base.specs.Leaf.{Item}
 use Rattle.blk_base.specs.Trees.{ItemsRise}
 use Rattle.blk_base.proofs.Members.{is_in}
 use Rattle.flat_model.specs.Names.{FlatName, entries_of, leads_to, links_of, stands_in}
-use Rattle.flat_model.specs.Records.{DirInode, FileInode, FileRecord, InodeRecord, LinkInode}
+use Rattle.flat_model.specs.Records.{DirInode, FileInode, InodeRecord, LinkInode}
 use Rattle.flat_model.specs.Volume.{Subvolume}
 use Rattle.tree_range.specs.Between.{data_under}
 use Rattle.tree_range.proofs.Found.{contains_under}
-use Rattle.volume_image.specs.Subvolume.{AreItemsOf, CoversBlock, Data, IsAsked, InodeAsked, RefsAsked, ExtRefsAsked, AttributesAsked, HashedAsked, IndexedAsked, ExtentAsked, IsExtentOf, IsInodeOf, HasEntries, attribute_entry, attributes_asked, attributes_there, data_addresses, entry_kind_of, entry_of, extent_len, extref_of, extrefs_asked, hashed_asked, indexed_asked, item_addresses, make_key, own_refs, ref_of, refs_asked}
+use Rattle.volume_image.specs.Subvolume.{AreItemsOf, CoversBlock, Data, IsAsked, InodeAsked, RefsAsked, ExtRefsAsked, AttributesAsked, HashedAsked, IndexedAsked, ExtentAsked, IsExtentOf, IsInodeOf, HasEntries, attribute_entry, attributes_asked, attributes_there, entry_of, extref_of, extrefs_asked, hashed_asked, indexed_asked, item_addresses, make_key, own_refs, ref_of, refs_asked}
 use Rattle.volume_image.proofs.Extents.{run_is_reached}
 use Rattle.volume_image.proofs.Members.{in_filter}
 use Rattle.volume_image.proofs.Reaches.{head_in, tail_in}
@@ -127,19 +126,25 @@ module _ (old new : Subvolume) (names : List FlatName) (inos : List ℕ) (change
       ap (λ (inode : Option InodeRecord). map attribute_entry (filter (λ attribute. nat_eq (name_hash_of attribute.0) key.offset) (attributes_there inode))) (inode_same (kind_xattr key kind))
 
   -- the entries of names that both have
-  entries_same : (p : FlatName → Bool) → filter p new.names ≡ filter p old.names → map (entry_of new) (filter p new.names) ≡ map (entry_of old) (filter p old.names)
-  entries_same p same =
+  none_by : (p : FlatName → Bool) → ((name : FlatName) → IsApart name key → p name ≡ false) → All (λ name. p name ≡ false) names
+  none_by p h =
+      All-weaker (λ (name : FlatName). IsApart name key) (λ (name : FlatName). p name ≡ false) h names each_apart
+
+  entries_same : (p : FlatName → Bool) → ((name : FlatName) → IsApart name key → p name ≡ false) → map (entry_of new) (filter p new.names) ≡ map (entry_of old) (filter p old.names)
+  entries_same p h =
+      let same : filter p new.names ≡ filter p old.names = apart_by p h in
       map_alike (entry_of new) (entry_of old) (filter p new.names) (λ name there.
-      ap (λ (kind : ℕ). record { target = make_key name.ino inode_item 0; transid = 0; kind = kind; name = name.bytes; value = [] }) (changes.kinds_stay name (member p old.names name (subst (λ (l : List FlatName). Contains l name) same there)) (member p new.names name there)))
+      let other : Contains names name → ⊥ = λ changed. true≢false (sym (in_filter p new.names name there).1 ∙ All-contains (λ (n : FlatName). p n ≡ false) names name (none_by p h) changed) in
+      ap (λ (kind : ℕ). record { target = make_key name.ino inode_item 0; transid = 0; kind = kind; name = name.bytes; value = [] }) (changes.kinds_stay name (member p old.names name (subst (λ (l : List FlatName). Contains l name) same there)) (member p new.names name there) other))
       ∙ ap (λ (l : List FlatName). map (entry_of old) l) same
 
   hashed_same : key.kind ≡ dir_item → hashed_asked new key.objectid key.offset ≡ hashed_asked old key.objectid key.offset
   hashed_same kind =
-      entries_same (λ name. nat_eq name.dir key.objectid && nat_eq (name_hash_of name.bytes) key.offset) (apart_by (λ name. nat_eq name.dir key.objectid && nat_eq (name_hash_of name.bytes) key.offset) (λ name apart. apart.hashed kind))
+      entries_same (λ name. nat_eq name.dir key.objectid && nat_eq (name_hash_of name.bytes) key.offset) (λ name apart. apart.hashed kind)
 
   indexed_same : key.kind ≡ dir_index → indexed_asked new key.objectid key.offset ≡ indexed_asked old key.objectid key.offset
   indexed_same kind =
-      entries_same (λ name. nat_eq name.dir key.objectid && nat_eq name.index key.offset) (apart_by (λ name. nat_eq name.dir key.objectid && nat_eq name.index key.offset) (λ name apart. apart.indexed kind))
+      entries_same (λ name. nat_eq name.dir key.objectid && nat_eq name.index key.offset) (λ name apart. apart.indexed kind)
 
   links_same : key.kind ≡ inode_item → links_of new.names key.objectid ≡ links_of old.names key.objectid
   links_same kind =

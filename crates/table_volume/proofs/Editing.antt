@@ -1,11 +1,11 @@
 -- Edits of a subvolume's tree and data, and what an edit leaves of other subvolumes.
-use Rattle.std.proofs.Common.{◌≡◌, ◌≢◌, ◌⊎◌, ◌∙◌, ℕ, List, [], ◌++◌, refl, sym, ap, subst, inl, inr}
-use Rattle.std.specs.Prelude.{All, Contains, None}
+use Rattle.std.proofs.Common.{◌≡◌, ◌≢◌, ◌∙◌, ℕ, List, [], ◌++◌, sym, ap, subst, inl, inr}
+use Rattle.std.specs.Prelude.{All, Contains}
 use Rattle.std.proofs.lemmas.List.Elements.{All-contains, All-contains_itself, All-weaker}
 use Rattle.std.proofs.lemmas.List.{append-nil}
 use Rattle.blk_base.specs.Trees.{NoneTwice}
 use Rattle.blk_base.proofs.Members.{is_in}
-use Rattle.block_table.specs.declared.state.SlotState.TheVariants.{Free, Dirty, LetGo}
+use Rattle.block_table.specs.declared.state.SlotState.TheVariants.{Dirty, LetGo}
 use Rattle.block_table.specs.declared.tree.SubState.{SubState}
 use Rattle.block_table.specs.declared.tree.Tree.{Tree}
 use Rattle.block_table.specs.Slot.{BlockSlot}
@@ -13,7 +13,7 @@ use Rattle.block_table.specs.Table.{Table}
 use Rattle.block_table.specs.TreeIn.{IsTaken, block_at}
 use Rattle.tree_range.specs.Shape.{AreAlike, tree_reach}
 use Rattle.tree_frame.specs.Frame.{AreCurrent, AreReadable, IsEdit}
-use Rattle.tree_frame.proofs.EditLaws.{is_dirty, same_unless_free}
+use Rattle.tree_frame.proofs.EditLaws.{is_dirty}
 use Rattle.tree_frame.proofs.Among.{alike_left, alike_right, apart_alike, edit_among, once_among}
 use Rattle.tree_frame.proofs.OtherTrees.{an_edit_leaves_readable}
 use Rattle.tree_frame.proofs.Reading.{IsReadable}

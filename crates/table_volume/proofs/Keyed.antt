@@ -1,13 +1,11 @@
 -- The items of a subvolume key by key.
 use Rattle.std.proofs.Common.{◌≡◌, ℕ, List, Option, Some, None, refl, sym, ap, ◌∙◌, subst}
 use Rattle.std.specs.Prelude.{Contains, IsSome}
-use Rattle.std.specs.FinMap.{get}
 use Rattle.std.proofs.lemmas.Bool.{true≢false}
 use Rattle.blk_base.specs.declared.key.Key.{Key}
 use Rattle.blk_base.specs.Keys.{dir_index, dir_item, extent_data, inode_extref, inode_item, inode_ref, xattr_item}
 use Rattle.blk_base.specs.Leaf.{Item}
 use Rattle.blk_base.specs.Trees.{ItemsRise}
-use Rattle.flat_model.specs.Records.{InodeRecord}
 use Rattle.flat_model.specs.Volume.{Subvolume}
 use Rattle.tree_range.specs.Between.{data_under}
 use Rattle.tree_range.proofs.Found.{contains_under, under_contains}

@@ -5,3 +5,4 @@ pub mod States
 pub mod Bits
 pub mod Keyed
 pub mod Changing
+pub mod Changes

@@ -1,6 +1,5 @@
 -- A state gives one subvolume, and the volume of all is sound.
 use Rattle.std.proofs.Common.{◌≡◌, ◌+◌, ℕ, List, map, Some, sym, ◌∙◌, subst, arith}
-use Rattle.std.specs.Prelude.{All}
 use Rattle.std.specs.FinMap.{get}
 use Rattle.std.proofs.lemmas.List.Elements.{All-contains, All-map, All-weaker}
 use Rattle.block_table.specs.declared.tree.SubState.{SubState}

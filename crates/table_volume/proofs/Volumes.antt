@@ -1,12 +1,12 @@
 -- An edit of one subvolume's blocks, in the volume that all states give.
-use Rattle.std.proofs.Common.{◌≡◌, ◌≢◌, ◌<◌, ◌+◌, ◌⊎◌, ◌∙◌, ℕ, List, [], ◌∷◌, ◌++◌, length, map, suc, Some, refl, sym, ap, subst, inl, inr, arith}
-use Rattle.std.specs.Prelude.{All, AllPairs, Contains, slice_index_or}
+use Rattle.std.proofs.Common.{◌≡◌, ◌≢◌, ◌<◌, ◌+◌, ◌∙◌, ℕ, List, [], ◌∷◌, ◌++◌, length, map, suc, Some, sym, ap, subst, inl, inr, arith}
+use Rattle.std.specs.Prelude.{All, Contains, slice_index_or}
 use Rattle.std.specs.List.{flat_map}
 use Rattle.std.specs.List.Sorted.{IsStrictlyIncreasing}
 use Rattle.std.specs.FinMap.{get, insert}
 use Rattle.std.proofs.lemmas.Grind.{flat_map-append}
 use Rattle.std.proofs.lemmas.List.{get_or_append_left, get_or-append-add, length-append, map-append}
-use Rattle.std.proofs.lemmas.List.Elements.{All-append, All-cons, All-contains, All-head, All-nil, All-tail, All-weaker, Contains-append_left, Contains-append_right}
+use Rattle.std.proofs.lemmas.List.Elements.{All-append, All-cons, All-nil, All-tail, All-weaker, Contains-append_left, Contains-append_right}
 use Rattle.std.proofs.lemmas.List.Kept.{AllPairs-from_increasing}
 use Rattle.std.proofs.Math.Seq.{get_or-append_seam}
 use Rattle.blk_base.specs.Trees.{NoneTwice}
@@ -92,9 +92,6 @@ reaches_of old new run states h =
 -- ---- the volume
 
 module _ (old new : Table) (lefts rights : List SubState) (before after : SubState) (run : RunVolume) (next : RunSub) (volume : GiveVolume old (lefts ++ before ∷ rights) run) (edit : IsEdit old new (sub_reach old before.tree) (sub_reach new after.tree)) (same : id_of after ≡ id_of before) (gives : GivesRun new after next) where
-  ids : (state : SubState) → List ℕ
-  ids state = map id_of lefts ++ id_of state ∷ map id_of rights
-
   ids_split : (state : SubState) → map id_of (lefts ++ state ∷ rights) ≡ map id_of lefts ++ id_of state ∷ map id_of rights
   ids_split state = map-append id_of lefts (state ∷ rights)
 

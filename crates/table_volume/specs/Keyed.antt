@@ -37,11 +37,11 @@ pub record HoldsExtents (sub : Subvolume) (items : List Item) (ino : ℕ) : Type
 -- ---- a change of some names and inodes
 
 -- The new subvolume has the old one's names but for some of these, which it gained or lost, and its inodes' records but for
--- these inodes'; and an inode that a name of both leads to is of the kind that it was.
+-- these inodes'; and an inode that another name of both leads to is of the kind that it was.
 pub record ChangesOnly (old new : Subvolume) (names : List FlatName) (inos : List ℕ) : Type 0 where
   pub names_stay : (p : FlatName → Bool) → All (λ name. p name ≡ false) names → filter p new.names ≡ filter p old.names
   pub inodes_stay : (ino : ℕ) → (Contains inos ino → ⊥) → get new.inodes ino ≡ get old.inodes ino
-  pub kinds_stay : (name : FlatName) → Contains old.names name → Contains new.names name → entry_kind_of (get new.inodes name.ino) ≡ entry_kind_of (get old.inodes name.ino)
+  pub kinds_stay : (name : FlatName) → Contains old.names name → Contains new.names name → (Contains names name → ⊥) → entry_kind_of (get new.inodes name.ino) ≡ entry_kind_of (get old.inodes name.ino)
 
 -- whether the item under the key tells of the name: it is of its inode or of its directory, or it has the name
 abbrev pub does_name_count : FlatName → Key → Bool
