@@ -1,5 +1,5 @@
 -- What each operation makes of a subvolume, and what it answers.
-use Rattle.std.specs.Prelude.{ℕ, ◌+◌, ◌^◌, Bool, false, cond, not, ◌&&◌, ◌||◌, List, [], ◌∷◌, length, Option, Some, None, is_none, unwrap_or, nat_eq, nat_lt, nat_le, fold}
+use Rattle.std.specs.Prelude.{ℕ, ◌+◌, ◌^◌, Bool, false, cond, not, ◌&&◌, ◌||◌, List, [], ◌∷◌, ◌++◌, length, Option, Some, None, is_none, unwrap_or, nat_eq, nat_lt, nat_le, fold}
 use Rattle.std.specs.List.{list_any}
 use Rattle.std.specs.FinMap.{empty, get, insert, remove}
 use Rattle.blk_base.specs.Crc.{name_hash_of, extref_hash_of}
@@ -183,9 +183,9 @@ rmdir_rows run place =
 unfoldable pub rmdir : RunSub → List (List ℕ) → Outcome
 rmdir run path = let place = walk run.sub path in unless_refused run (rmdir_rows run place) (removal_done run place)
 
--- the rows of rename; the third is no refusal, it says that there is nothing to do (own)
-abbrev pub rename_rows : RunSub → List (List ℕ) → List (List ℕ) → WalkEnd → WalkEnd → List FlatName → FlatName → List (Bool × Answer)
-rename_rows run old new from to left name =
+-- the rows of rename before the last; the third is no refusal, it says that there is nothing to do (own)
+abbrev pub rename_tests : RunSub → List (List ℕ) → List (List ℕ) → WalkEnd → WalkEnd → List (Bool × Answer)
+rename_tests run old new from to =
     let moved = record_at run.sub from in
     let target = record_at run.sub to in
     (is_absent from || is_dirless to, NoEnt)
@@ -196,8 +196,11 @@ rename_rows run old new from to left name =
     ∷ (not (is_root to) && (is_dir_there target && has_entries run.sub (ino_at to)), NotEmpty)
     ∷ (is_root from || (is_root to || (is_dir_there moved && is_below old new)), Loop)
     ∷ (indexes_are_spent run.numbers, TooLarge)
-    ∷ (do_collide left (name ∷ []), Collide)
     ∷ []
+
+-- the rows of rename (own)
+abbrev pub rename_rows : RunSub → List (List ℕ) → List (List ℕ) → WalkEnd → WalkEnd → List FlatName → FlatName → List (Bool × Answer)
+rename_rows run old new from to left name = rename_tests run old new from to ++ (do_collide left (name ∷ []), Collide) ∷ []
 
 -- a name in place of the one that went (own)
 abbrev pub rename_done : RunSub → Subvolume → List FlatName → FlatName → Outcome
@@ -218,16 +221,19 @@ rename run old new index =
     let name = new_name left to index (unwrap_or (ino_at from) 0) in
     unless_refused run (rename_rows run old new from to left name) (rename_done run without left name)
 
--- the rows of exchange; the third is no refusal, it says that there is nothing to do (own)
-abbrev pub exchange_rows : RunSub → List (List ℕ) → List (List ℕ) → WalkEnd → WalkEnd → List FlatName → List FlatName → List (Bool × Answer)
-exchange_rows run one two first second left made =
+-- the rows of exchange before the last; the third is no refusal, it says that there is nothing to do (own)
+abbrev pub exchange_tests : RunSub → List (List ℕ) → List (List ℕ) → WalkEnd → WalkEnd → List (Bool × Answer)
+exchange_tests run one two first second =
     (is_absent first || is_absent second, NoEnt)
     ∷ (is_blocked first || is_blocked second, NotDir)
     ∷ (is_one_inode first second, Plain)
     ∷ (is_root first || (is_root second || (is_below one two || is_below two one)), Loop)
     ∷ (indexes_are_spent run.numbers, TooLarge)
-    ∷ (do_collide left made, Collide)
     ∷ []
+
+-- the rows of exchange (own)
+abbrev pub exchange_rows : RunSub → List (List ℕ) → List (List ℕ) → WalkEnd → WalkEnd → List FlatName → List FlatName → List (Bool × Answer)
+exchange_rows run one two first second left made = exchange_tests run one two first second ++ (do_collide left made, Collide) ∷ []
 
 -- names in place of those that went (own)
 abbrev pub exchange_done : RunSub → List FlatName → List FlatName → Outcome

@@ -9,10 +9,10 @@ use Rattle.flat_model.specs.Records.{InodeRecord}
 use Rattle.flat_model.specs.Names.{FlatName, add_name, links_of, remove_name}
 use Rattle.flat_model.specs.Volume.{Subvolume, RunSub, is_dir_there}
 use Rattle.flat_model.specs.Walk.{WalkEnd, AtRoot, AtSlot, Missing, Blocked, walk, ino_at, record_at, bytes_of, is_below, is_absent, is_dirless, is_blocked, is_root}
-use Rattle.flat_model.specs.Operations.{Outcome, rename, rename_rows, rename_done, exchange, exchange_rows, exchange_done, first_answer, new_name, is_crowded, do_collide, names_without, without_entry}
+use Rattle.flat_model.specs.Operations.{Outcome, rename, rename_rows, rename_done, exchange, exchange_rows, exchange_done, first_answer, new_name, is_crowded, do_collide, names_without, without_entry, rename_tests, exchange_tests}
 use Rattle.flat_sub.specs.Ends.{ComesTo, with_sub}
 use Rattle.flat_sub.specs.Lists.{settled, last_of}
-use Rattle.flat_sub.specs.Moves.{rename_tests, exchange_tests, lost_inode, without_lost, noted_index}
+use Rattle.flat_sub.specs.Moves.{lost_inode, without_lost, noted_index}
 use Rattle.flat_sub.proofs.Refusals.{refused, finished}
 use Rattle.flat_sub.proofs.Rows.{rows_decide, rows_pass, none_holds, or_none}
 use Rattle.flat_sub.proofs.Makings.{one_collides}

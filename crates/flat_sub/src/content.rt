@@ -15,16 +15,11 @@ ghost use Rattle.flat_sub.specs.Editing.{with_attributes_of};
 
 use crate::sub::FlatSub;
 use crate::walk::End;
+use blk_base::limits::{MOST_FILE_BYTES, MOST_VALUE_BYTES};
 use blk_base::{Name, OutOfMemory, Text};
 use flat_model::{Answer, Kind, Path};
 use flat_record::{Inode, place_of};
 use std::alloc::Global;
-
-/// The most bytes of a file (own).
-const MOST_FILE_BYTES: u64 = 16_777_216;
-
-/// The most bytes of an attribute's value (own).
-const MOST_VALUE_BYTES: usize = 1024;
 
 /// Whether so many bytes from an offset on end past the most bytes of a file.
 fn ends_past_limit(offset: u64, count: u64) -> bool

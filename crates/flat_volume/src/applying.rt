@@ -8,17 +8,12 @@ ghost use Rattle.flat_volume.specs.Indexes.{indexes_above};
 ghost use Rattle.flat_volume.specs.Applying.{IsApplied};
 
 use crate::FlatVolume;
+use blk_base::limits::{MOST_TARGET_BYTES, MOST_WRITTEN_BYTES};
 use blk_base::{OutOfMemory, SubId, Text};
 use flat_model::{Answer, Kind, Op};
 use flat_record::{Inode, place_of};
 use flat_sub::FlatSub;
 use std::alloc::Global;
-
-/// The most bytes of a symlink's target (own).
-const MOST_TARGET_BYTES: usize = 1023;
-
-/// The most bytes of a write's text (own).
-const MOST_WRITTEN_BYTES: usize = 65536;
 
 /// Whether an operation is in its limits: a write's text has 1 to 65,536 bytes, a symlink's target 1 to 1023, an
 /// attribute's value at least 1 (own).
