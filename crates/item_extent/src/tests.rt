@@ -58,12 +58,11 @@ fn changed(
     Extent::open(&key_at(offset), &bytes[..length % 80]).err()
 }
 
-/// The first fault of a run of so many bytes.
-fn run_of(length: u64) -> Option<ItemFault> {
-    let mut bytes = run_item();
-    for at in [8, 29, 45] {
-        put_u64(&mut bytes, at, length);
-    }
+/// The first fault of a run that is changed to so many bytes.
+fn run_of(bytes: &mut [u8; 80], length: u64) -> Option<ItemFault> {
+    put_u64(bytes, 8, length);
+    put_u64(bytes, 29, length);
+    put_u64(bytes, 45, length);
     Extent::open(&key_at(0), &bytes[..53]).err()
 }
 
@@ -113,6 +112,10 @@ fn changed_items(rt: HostRuntime) {
         (16_781_312, align),
         (0, align),
     ] {
-        assert_eq!(rt; run_of(length), want, "a run of {length} bytes");
+        assert_eq!(rt;
+            run_of(&mut run_item(), length),
+            want,
+            "a run of {length} bytes"
+        );
     }
 }
