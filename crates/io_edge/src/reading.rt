@@ -3,7 +3,8 @@ ghost use Rattle.io_edge.specs.Edge.{Gives};
 ghost use Rattle.io_edge.specs.Reading.{HasEnded, HasGivenSome, IsCutShort};
 
 use crate::{Source, SourceFailed};
-use blk_base::{MOST_SCRIPT_BYTES, OutOfMemory};
+use blk_base::OutOfMemory;
+use blk_base::limits::MOST_SCRIPT_BYTES;
 use std::alloc::Global;
 use thiserror::Error;
 
