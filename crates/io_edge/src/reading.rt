@@ -55,7 +55,10 @@ pub fn read_all<S: Source>(alloc: Global, from: &mut S) -> Result<Vec<u8>, ReadF
     }
     match from.read(&mut part[..1]) {
         Ok(0) => Ok(bytes),
-        Ok(_) | Err(SourceFailed) => Err(ReadFault::Failed {
+        Ok(_) => Err(ReadFault::Failed {
+            taken: MOST_SCRIPT_BYTES as u64,
+        }),
+        Err(SourceFailed) => Err(ReadFault::Failed {
             taken: MOST_SCRIPT_BYTES as u64,
         }),
     }

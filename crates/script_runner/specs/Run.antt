@@ -55,8 +55,8 @@ pub record IsDiskSame (before after : Outside) : Type 0 where
   pub told : after.told ≡ before.told
 
 -- no block is lost (own)
-abbrev pub LacksNone : Told → Type 0
-LacksNone told = (held_now told).lost ≡ []
+abbrev pub HasLostNone : Told → Type 0
+HasLostNone told = (held_now told).lost ≡ []
 
 -- Calls of a script on the volume that was mounted: the one for which the image stands, and no fault is the image's. Where
 -- no block is lost at first and each image that a crash may leave at first has the superblock that is read and all that it reaches, a crash at every moment
@@ -70,7 +70,7 @@ pub record IsRunOn (lines : List Line) (before after : Outside) : Type 0 where
   pub counted : before.disk_faults ≤ faults
   pub last : RunVolume
   pub ran : HasRun lines (record { volume = mounted volume; told = before.told; faults = faults }) (record { volume = last; told = after.told; faults = after.disk_faults })
-  pub crash : IfTold before.told LacksNone → IfTold before.told FindsWholeVolume
+  pub crash : IfTold before.told HasLostNone → IfTold before.told FindsWholeVolume
       → RunLeaves (record { last = volume; failed = None }) (record { volume = mounted volume; told = before.told; faults = faults }) ran.front ran.calls
 
 -- The text that was begun when the sink failed, and what the sink took of it: all lines before the last call's and a front of that

@@ -7,7 +7,7 @@ ghost use Rattle.mount_volume.specs.declared.fault.MountFault.{MountFault};
 ghost use Rattle.mount_volume.specs.Answer.{HasRisen};
 ghost use Rattle.script_text.specs.declared.fault.ScriptKind.{ScriptKind};
 ghost use Rattle.script_runner.specs.Run.{IsRunAnswer, outside};
-ghost use Rattle.script_runner.specs.Commands.{IsOfMkfs, AreInRange, HasOneLeaf, IsAnyMkfs, IsCommand, IsDone, IsFaultOf, IsFaultless, IsInRange, IsList, IsOfScript, IsOutOfRange, IsRun, IsTextOf, IsTold, bytes_of, made_line};
+ghost use Rattle.script_runner.specs.Commands.{IsOfMkfs, AreInRange, HasOneLeaf, IsAnyMkfs, IsCommand, IsDone, IsFaultOf, IsFaultless, IsInRange, IsList, IsOfScript, IsOutOfRange, IsRun, IsTextOf, IsPut, bytes_of, made_line};
 ghost use Rattle.mount_volume.specs.Mkfs.{CrashLeaves, IsOldOrBare};
 ghost use Rattle.script_runner.specs.Mkfs.{HasSuperAsked, HasSuperOf};
 
@@ -59,10 +59,10 @@ pub fn drive<S: Source, K: Sink, D: Disk>(
     ensures mkfs_untouched { IsAnyMkfs (bytes_of words.now) → (result ≡ Status.Memory) → disk.new ≡ disk.old }
     ensures list_untouched { IsList (bytes_of words.now) → (D.seen disk.new ≡ D.seen disk.old) × (D.lost disk.new ≡ D.lost disk.old) × (D.told disk.new ≡ D.told disk.old) }
     ensures list_sound { IsList (bytes_of words.now) → IsDone result → IfTold (known (D.seen disk.old) (D.lost disk.old)) IsFaultless }
-    ensures text { (IsRun (bytes_of words.now) → ⊥) → (text : List ℕ) × IsTextOf (bytes_of words.now) (known (D.seen disk.old) (D.lost disk.old)) result text × IsTold result text (K.taken to.old) (K.taken to.new) (K.faults to.old) (K.faults to.new) }
+    ensures text { (IsRun (bytes_of words.now) → ⊥) → (text : List ℕ) × IsTextOf (bytes_of words.now) (known (D.seen disk.old) (D.lost disk.old)) result text × IsPut result text (K.taken to.old) (K.taken to.new) (K.faults to.old) (K.faults to.new) }
 
     // What a run of a script answers, what it writes, and what a crash at any moment leaves.
-    ensures run { IsRun (bytes_of words.now) → (text : List ℕ) × IsTold result text (K.taken to.old) (K.taken to.new) (K.faults to.old) (K.faults to.new)
+    ensures run { IsRun (bytes_of words.now) → (text : List ℕ) × IsPut result text (K.taken to.old) (K.taken to.new) (K.faults to.old) (K.faults to.new)
         × IsRunAnswer (record { left = S.left from.old; faults = S.faults from.old }) (record { left = S.left from.new; faults = S.faults from.new })
         (outside (known (D.seen disk.old) (D.lost disk.old)) (D.told disk.old) (K.taken to.old) (D.faults disk.old) (K.faults to.old)) (outside (known (D.seen disk.new) (D.lost disk.new)) (D.told disk.new) (K.taken to.new) (D.faults disk.new) (K.faults to.new)) result text }
 
@@ -153,7 +153,7 @@ fn make<D: Disk>(alloc: Global, fsid: &str, blocks: &str, subs: &str, disk: &mut
 /// Writes the line of the volume that was made, and gives `Done` or `WriteFault`.
 fn tell_made<K: Sink>(words: &[String], to: &mut K) -> Status
     ensures answer { (result ≡ Status.Done) ⊎ (result ≡ Status.WriteFault) }
-    ensures text { IsTold result (made_line (bytes_of words.now)) (K.taken to.old) (K.taken to.new) (K.faults to.old) (K.faults to.new) }
+    ensures text { IsPut result (made_line (bytes_of words.now)) (K.taken to.old) (K.taken to.new) (K.faults to.old) (K.faults to.new) }
     ensures write_fault { (result ≡ Status.WriteFault) → HasRisen (K.faults to.old) (K.faults to.new) }
     ensures counted { K.faults to.old ≤ K.faults to.new }
 {

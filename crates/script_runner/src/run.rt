@@ -2,7 +2,7 @@
 ghost use Rattle.std.specs.Prelude.{◌≡◌, ◌≤◌, List, ℕ};
 ghost use Rattle.disk_model.specs.Disk.{IfTold, known};
 ghost use Rattle.mount_volume.specs.Answer.{IsMountedAs, IsReady};
-ghost use Rattle.script_runner.specs.Commands.{IsFaultless, IsOfScript, IsTold};
+ghost use Rattle.script_runner.specs.Commands.{IsFaultless, IsOfScript, IsPut};
 ghost use Rattle.leaf_lines.specs.Lines.{AreAllowed};
 ghost use Rattle.script_runner.specs.Run.{FromSource, IsLinesAnswer, IsRead, IsRunAnswer, outside, status_of_script, status_of_source};
 
@@ -48,7 +48,7 @@ fn run_mounted<K: Sink, D: Disk>(
     requires allowed { AreAllowed lines.now }
     requires ready { IsReady mounted (D.count disk.old) }
     requires stands { IfTold (known (D.seen disk.old) (D.lost disk.old)) (λ image. IsMountedAs image mounted × IsFaultless image) }
-    ensures answer { (faults : ℕ) → faults ≤ D.faults disk.old → (text : List ℕ) × IsTold result text (K.taken to.old) (K.taken to.new) (K.faults to.old) (K.faults to.new)
+    ensures answer { (faults : ℕ) → faults ≤ D.faults disk.old → (text : List ℕ) × IsPut result text (K.taken to.old) (K.taken to.new) (K.faults to.old) (K.faults to.new)
         × IsLinesAnswer lines.now (outside (known (D.seen disk.old) (D.lost disk.old)) (D.told disk.old) (K.taken to.old) faults (K.faults to.old)) (outside (known (D.seen disk.new) (D.lost disk.new)) (D.told disk.new) (K.taken to.new) (D.faults disk.new) (K.faults to.new)) result text }
     ensures size { D.count disk.new ≡ D.count disk.old }
     ensures disk_counted { D.faults disk.old ≤ D.faults disk.new }
@@ -65,7 +65,7 @@ fn run_mounted<K: Sink, D: Disk>(
 /// Mounts the volume and runs the lines of a script on it.
 fn run_script<K: Sink, D: Disk>(alloc: Global, lines: &[Line], disk: &mut D, to: &mut K) -> Status
     requires { AreAllowed lines.now }
-    ensures answer { (text : List ℕ) × IsTold result text (K.taken to.old) (K.taken to.new) (K.faults to.old) (K.faults to.new)
+    ensures answer { (text : List ℕ) × IsPut result text (K.taken to.old) (K.taken to.new) (K.faults to.old) (K.faults to.new)
         × IsLinesAnswer lines.now (outside (known (D.seen disk.old) (D.lost disk.old)) (D.told disk.old) (K.taken to.old) (D.faults disk.old) (K.faults to.old)) (outside (known (D.seen disk.new) (D.lost disk.new)) (D.told disk.new) (K.taken to.new) (D.faults disk.new) (K.faults to.new)) result text }
     ensures size { D.count disk.new ≡ D.count disk.old }
     ensures disk_counted { D.faults disk.old ≤ D.faults disk.new }
@@ -79,7 +79,7 @@ fn run_script<K: Sink, D: Disk>(alloc: Global, lines: &[Line], disk: &mut D, to:
 
 /// Runs the script of the bytes, or writes the line of its first fault.
 fn run_bytes<K: Sink, D: Disk>(alloc: Global, bytes: &[u8], disk: &mut D, to: &mut K) -> Status
-    ensures answer { (given left : FromSource) → IsRead given left bytes.now → (text : List ℕ) × IsTold result text (K.taken to.old) (K.taken to.new) (K.faults to.old) (K.faults to.new)
+    ensures answer { (given left : FromSource) → IsRead given left bytes.now → (text : List ℕ) × IsPut result text (K.taken to.old) (K.taken to.new) (K.faults to.old) (K.faults to.new)
         × IsRunAnswer given left (outside (known (D.seen disk.old) (D.lost disk.old)) (D.told disk.old) (K.taken to.old) (D.faults disk.old) (K.faults to.old)) (outside (known (D.seen disk.new) (D.lost disk.new)) (D.told disk.new) (K.taken to.new) (D.faults disk.new) (K.faults to.new)) result text }
     ensures untouched { IsOfScript result → disk.new ≡ disk.old }
     ensures size { D.count disk.new ≡ D.count disk.old }
@@ -99,7 +99,7 @@ pub(crate) fn run<S: Source, K: Sink, D: Disk>(
     to: &mut K,
     disk: &mut D,
 ) -> Status
-    ensures answer { (text : List ℕ) × IsTold result text (K.taken to.old) (K.taken to.new) (K.faults to.old) (K.faults to.new)
+    ensures answer { (text : List ℕ) × IsPut result text (K.taken to.old) (K.taken to.new) (K.faults to.old) (K.faults to.new)
         × IsRunAnswer (record { left = S.left from.old; faults = S.faults from.old }) (record { left = S.left from.new; faults = S.faults from.new })
         (outside (known (D.seen disk.old) (D.lost disk.old)) (D.told disk.old) (K.taken to.old) (D.faults disk.old) (K.faults to.old)) (outside (known (D.seen disk.new) (D.lost disk.new)) (D.told disk.new) (K.taken to.new) (D.faults disk.new) (K.faults to.new)) result text }
     ensures untouched { IsOfScript result → disk.new ≡ disk.old }

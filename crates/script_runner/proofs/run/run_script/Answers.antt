@@ -7,7 +7,7 @@ use Rattle.script_runner.specs.Commands.{answer_line}
 use Rattle.disk_model.specs.Disk.{known, Told}
 use Rattle.volume_image.specs.Tree.{Image}
 use Rattle.script_runner.specs.Run.{outside}
-use Rattle.script_runner.proofs.RunLemmas.{IsToldLines, told_unmounted}
+use Rattle.script_runner.proofs.RunLemmas.{IsPutLines, told_unmounted}
 use Rattle.disk_model.proofs.CrashLaws.{known_same}
 use Rattle.script_runner.proofs.run.run_script.Goals as goal
 
@@ -17,8 +17,8 @@ returns-in-Ok-clause-answer g c =
     let mid = c.mount.new.disk in
     let next = c.run_mounted.new in
     let after = outside (known (g.D.Disk.seen next.disk) (g.D.Disk.lost next.disk)) (g.D.Disk.told next.disk) (g.K.Sink.taken next.to) (g.D.Disk.faults next.disk) (g.K.Sink.faults next.to) in
-    subst (λ (seen : Option Image). IsToldLines c.args.lines.now (outside seen (g.D.Disk.told disk) (g.K.Sink.taken c.args.to.now) (g.D.Disk.faults disk) (g.K.Sink.faults c.args.to.now)) after c.run_mounted.result) (known_same _ _ _ _ c.in-Ok.ensures.seen c.in-Ok.ensures.lost)
-    (subst (λ (told : Option Told). IsToldLines c.args.lines.now (outside (known (g.D.Disk.seen mid) (g.D.Disk.lost mid)) told (g.K.Sink.taken c.args.to.now) (g.D.Disk.faults disk) (g.K.Sink.faults c.args.to.now)) after c.run_mounted.result) c.in-Ok.ensures.told
+    subst (λ (seen : Option Image). IsPutLines c.args.lines.now (outside seen (g.D.Disk.told disk) (g.K.Sink.taken c.args.to.now) (g.D.Disk.faults disk) (g.K.Sink.faults c.args.to.now)) after c.run_mounted.result) (known_same _ _ _ _ c.in-Ok.ensures.seen c.in-Ok.ensures.lost)
+    (subst (λ (told : Option Told). IsPutLines c.args.lines.now (outside (known (g.D.Disk.seen mid) (g.D.Disk.lost mid)) told (g.K.Sink.taken c.args.to.now) (g.D.Disk.faults disk) (g.K.Sink.faults c.args.to.now)) after c.run_mounted.result) c.in-Ok.ensures.told
     (c.run_mounted.ensures.answer (g.D.Disk.faults disk) c.in-Ok.ensures.counted))
 
 pub returns-in-Err-clause-answer : goal.returns-in-Err-clause-answer
