@@ -53,14 +53,11 @@ pub fn read_all<S: Source>(alloc: Global, from: &mut S) -> Result<Vec<u8>, ReadF
             }
         }
     }
+    let most = MOST_SCRIPT_BYTES as u64;
     match from.read(&mut part[..1]) {
         Ok(0) => Ok(bytes),
-        Ok(_) => Err(ReadFault::Failed {
-            taken: MOST_SCRIPT_BYTES as u64,
-        }),
-        Err(SourceFailed) => Err(ReadFault::Failed {
-            taken: MOST_SCRIPT_BYTES as u64,
-        }),
+        Ok(_) => Err(ReadFault::Failed { taken: most }),
+        Err(SourceFailed) => Err(ReadFault::Failed { taken: most }),
     }
 }
 

@@ -56,41 +56,29 @@ fn sync(
 }
 
 #[test]
-fn blocks_change_places(rt: HostRuntime) -> Result<(), Fail> {
+fn calls_of_two_syncs(rt: HostRuntime) -> Result<(), Fail> {
+    // The superblock of a sync that failed there is written again, and then other blocks.
+    let rows = [
+        (0, Ok(()), [19, 20, 0, 16, 17, 18, 0, 16].as_slice()),
+        (
+            4,
+            Err(SyncFault::Disk),
+            [19, 20, 0, 16, 16, 21, 22, 0, 16].as_slice(),
+        ),
+    ];
     let volume = FlatVolume::empty(rt.alloc(), 1)?;
-    let mut disk = ListDisk::<4096>::new(rt.alloc(), 0);
-    let mut store = store(rt.alloc())?;
-    assert_eq!(rt;
-        sync(rt.alloc(), &mut store, &mut disk, &volume),
-        Some(Ok(()))
-    );
-    assert_eq!(rt;
-        sync(rt.alloc(), &mut store, &mut disk, &volume),
-        Some(Ok(()))
-    );
-    assert_eq!(rt;
-        disk.calls(),
-        [19, 20, 0, 16, 17, 18, 0, 16].as_slice()
-    );
-    Ok(())
-}
-
-#[test]
-fn a_superblock_is_written_again(rt: HostRuntime) -> Result<(), Fail> {
-    let volume = FlatVolume::empty(rt.alloc(), 1)?;
-    let mut disk = ListDisk::<4096>::new(rt.alloc(), 4);
-    let mut store = store(rt.alloc())?;
-    assert_eq!(rt;
-        sync(rt.alloc(), &mut store, &mut disk, &volume),
-        Some(Err(SyncFault::Disk))
-    );
-    assert_eq!(rt;
-        sync(rt.alloc(), &mut store, &mut disk, &volume),
-        Some(Ok(()))
-    );
-    assert_eq!(rt;
-        disk.calls(),
-        [19, 20, 0, 16, 16, 21, 22, 0, 16].as_slice()
-    );
+    for (fails, first, calls) in rows {
+        let mut disk = ListDisk::<4096>::new(rt.alloc(), fails);
+        let mut store = store(rt.alloc())?;
+        assert_eq!(rt;
+            sync(rt.alloc(), &mut store, &mut disk, &volume),
+            Some(first)
+        );
+        assert_eq!(rt;
+            sync(rt.alloc(), &mut store, &mut disk, &volume),
+            Some(Ok(()))
+        );
+        assert_eq!(rt; disk.calls(), calls);
+    }
     Ok(())
 }
