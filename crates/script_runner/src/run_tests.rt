@@ -109,7 +109,11 @@ fn a_script_has_its_text_and_its_volume(rt: HostRuntime) -> Result<(), Fail> {
     let rows = [
         (SYNCED, "1 ok 257\n1 ok 2\n1 ok sync\ndone 3\n", WRITTEN),
         (b"".as_slice(), "done 0\n", EMPTY),
-        (b"# a file\n\n16 create /a".as_slice(), "16 ok 257\ndone 1\n", EMPTY),
+        (
+            b"# a file\n\n16 create /a".as_slice(),
+            "16 ok 257\ndone 1\n",
+            EMPTY,
+        ),
     ];
     for (script, text, listing) in rows {
         let mut disk = made(rt.alloc(), ALL)?;

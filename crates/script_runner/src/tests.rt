@@ -57,7 +57,10 @@ fn makes_the_first_volume(rt: HostRuntime) -> Result<(), Fail> {
         (0xbc, [0, 0, 0, 0, 0, 0, 0, 0x80]),
     ];
     for (at, bytes) in rows {
-        assert!(rt; superblock.get(at..at + 8) == Some(bytes.as_slice()), "{at}");
+        assert!(rt;
+            superblock.get(at..at + 8) == Some(bytes.as_slice()),
+            "{at}"
+        );
     }
     Ok(())
 }
@@ -126,7 +129,10 @@ fn words_and_numbers_have_one_form(rt: HostRuntime) -> Result<(), Fail> {
         (8, 0)
     );
     for (word, last) in [("MKFS", "1"), ("list", "1")] {
-        assert_eq!(rt; code::<4096>(rt.alloc(), &[word, FSID, "4096", last])?, (1, 0));
+        assert_eq!(rt;
+            code::<4096>(rt.alloc(), &[word, FSID, "4096", last])?,
+            (1, 0)
+        );
     }
     assert_eq!(rt; code::<4096>(rt.alloc(), &[])?, (1, 0));
     assert_eq!(rt; code::<4096>(rt.alloc(), &["mkfs"])?, (1, 0));
@@ -165,7 +171,10 @@ fn each_fault_has_its_answer(rt: HostRuntime) -> Result<(), Fail> {
         ("2", 0, 0, "range\n", (8, 0, true)),
     ];
     for (subs, disk_fails, sink_fails, text, wanted) in rows {
-        assert_eq!(rt; made(rt.alloc(), subs, disk_fails, sink_fails, text)?, wanted);
+        assert_eq!(rt;
+            made(rt.alloc(), subs, disk_fails, sink_fails, text)?,
+            wanted
+        );
     }
     let mut disk = ListDisk::<4096>::new(rt.alloc(), 0);
     let mut to = MemorySink::new(rt.alloc(), &[])?;
