@@ -30,7 +30,7 @@ ino_is_number names name c = flat_map_has (λ (n : FlatName). n.ino ∷ n.dir �
 dir_is_number : (names : List FlatName) (name : FlatName) → Contains names name → Contains (numbers_in names) name.dir
 dir_is_number names name c = flat_map_has (λ (n : FlatName). n.ino ∷ n.dir ∷ []) names name name.dir c (contains_tail name.ino (name.dir ∷ []) name.dir (contains_head name.dir []))
 
-leads_further : (names : List FlatName) (way : List FlatName) (ino dir : ℕ) (name : FlatName) → LeadsTo names ino way dir → Contains names name → name.ino ≡ dir → LeadsTo names ino (way ++ name ∷ []) name.dir
+pub leads_further : (names : List FlatName) (way : List FlatName) (ino dir : ℕ) (name : FlatName) → LeadsTo names ino way dir → Contains names name → name.ino ≡ dir → LeadsTo names ino (way ++ name ∷ []) name.dir
 leads_further names [] ino dir name up c same = (c, same ∙ sym up, refl)
 leads_further names (first ∷ way) ino dir name up c same = (up.0, up.1, leads_further names way first.dir dir name up.2 c same)
 
