@@ -6,3 +6,6 @@ pub mod NameSums
 pub mod Stepped
 pub mod StepCoherence
 pub mod BothForms
+pub mod Gaps
+pub mod Wholes
+pub mod Replays

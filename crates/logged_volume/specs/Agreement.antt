@@ -2,7 +2,7 @@
 use Rattle.std.specs.Prelude.{◌≡◌, ℕ, Bool, not, ◌&&◌, List, Some, Contains, IsTrue, is_some, bytes_eq, nat_eq}
 use Rattle.std.specs.List.{list_any, list_all}
 use Rattle.std.specs.FinMap.{get}
-use Rattle.flat_model.specs.Records.{InodeRecord, kind_of}
+use Rattle.flat_model.specs.Records.{InodeRecord, kind_of, at_creation}
 use Rattle.flat_model.specs.Names.{FlatName, names_of}
 use Rattle.flat_model.specs.Volume.{Subvolume}
 use Rattle.flat_model.specs.Coherent.{IsCoherent}
@@ -39,3 +39,8 @@ pub record AreStep (current logged : Subvolume) (target : ℕ) : Type 0 where
   pub logged_coherent : IsCoherent logged
   pub agree : Agree current logged
   pub has_target : IsTrue (is_there current target)
+
+-- an inode of both was made alike in both: it has one kind, and a symlink one target (own)
+abbrev pub AreMadeAlike : Subvolume → Subvolume → Type 0
+AreMadeAlike one two =
+    (ino : ℕ) (here there : InodeRecord) → get one.inodes ino ≡ Some here → get two.inodes ino ≡ Some there → at_creation here ≡ at_creation there

@@ -1,5 +1,10 @@
 pub mod Numbers
 pub mod Agreement
 pub mod Drawn
-pub mod LogStep
 pub mod Rules
+pub mod LogStep
+pub mod FlatLog
+pub mod Replay
+pub mod Accepted
+pub mod Written
+pub mod Standing

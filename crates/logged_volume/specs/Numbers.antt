@@ -53,4 +53,4 @@ is_met numbers interval = list_any (λ number. nat_le interval.0 number && nat_l
 
 -- each maximal interval of the numbers below `high` that has none of the first numbers and at least one of the others
 abbrev pub gaps_with : List ℕ → List ℕ → ℕ → List (ℕ × ℕ)
-gaps_with without others high = filter (is_met others) (gaps 0 without high)
+gaps_with without others high = filter (is_met others) (gaps 0 (number_set without) high)

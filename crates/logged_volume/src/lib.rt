@@ -5,8 +5,12 @@
 //! definitions alone: the functions here have no parameters and no body.
 #![tactic(auto)]
 
+mod accepted;
 mod drawn;
+mod logs;
 mod steps;
 
+pub use accepted::accepted_logs_leave_names_apart;
 pub use drawn::drawn_set_is_least;
+pub use logs::{empty_logs_say_committed, logs_are_replayed, steps_write_logs};
 pub use steps::log_steps_keep_coherence;
