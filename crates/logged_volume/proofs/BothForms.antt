@@ -90,18 +90,23 @@ no_reason conflicts stranded room e =
       ] s
     ] e
 
+-- where no reason for a full commit is there and the step hasn't the data form, the drawn set strands no directory
+pub strands_none : (current logged : Subvolume) (target : ℕ) (datasync : Bool) (room : RoomNumbers) → AreStep current logged target → commit_reason current logged target datasync room ≡ None → is_data_form logged target datasync ≡ false → StrandsNone current logged (drawn_set current logged target)
+strands_none current logged target datasync room step none f =
+    let members = drawn_set current logged target in
+    let stranded : stranded_of current logged target datasync ≡ None = no_reason (length (conflicts_of current logged target datasync)) _ (room_reason room) none in
+    none_stranded current logged members step.logged_coherent
+    (subst (λ ms. first_of (filter (is_stranding current logged ms) ms) ≡ None) (ap (λ b. cond b (target ∷ []) members) f) stranded)
+
 -- ---- both forms
 
 pub step_coherent : (current logged : Subvolume) (target : ℕ) (datasync : Bool) (room : RoomNumbers) → AreStep current logged target → commit_reason current logged target datasync room ≡ None → LeavesCoherent current logged (log_step current logged target datasync)
 step_coherent current logged target datasync room step none =
-    let stranded : stranded_of current logged target datasync ≡ None = no_reason (length (conflicts_of current logged target datasync)) _ (room_reason room) none in
     elim (is_data_form logged target datasync) as (λ b. is_data_form logged target datasync ≡ b → LeavesCoherent current logged (cond b (with_data current logged target) (stepped current logged target (drawn_set current logged target)))) [
       | true ↦ λ t. with_data_coherent current logged target step (and_parts _ _ t).1
       | false ↦ λ f.
           let members = drawn_set current logged target in
-          let none : first_of (filter (is_stranding current logged members) members) ≡ None =
-          subst (λ ms. first_of (filter (is_stranding current logged ms) ms) ≡ None) (ap (λ b. cond b (target ∷ []) members) f) stranded in
-          let strands = none_stranded current logged members step.logged_coherent none in
+          let strands = strands_none current logged target datasync room step none f in
           let closed = least_set_closed current logged target true in
           record {
             coherent = stepped_coherent current logged target members step closed strands;

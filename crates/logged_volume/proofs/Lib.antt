@@ -9,3 +9,7 @@ pub mod BothForms
 pub mod Gaps
 pub mod Wholes
 pub mod Replays
+pub mod Covers
+pub mod WrittenLogs
+pub mod DataLogs
+pub mod LogSteps

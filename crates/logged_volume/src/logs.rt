@@ -12,9 +12,9 @@ ghost use Rattle.logged_volume.specs.Accepted.{IsAccepted};
 ghost use Rattle.logged_volume.specs.Written.{IsWritten};
 ghost use Rattle.logged_volume.specs.Standing.{IsLogOf, AreLogStep};
 
-/// Law: the empty log says that the logged volume is the committed one (own).
+/// Law: the empty log says that the logged volume is the committed one, which is coherent (own).
 pub fn empty_logs_say_committed()
-    ensures { (committed : Subvolume) → IsLogOf committed committed empty_log }
+    ensures { (committed : Subvolume) → IsCoherent committed → IsLogOf committed committed empty_log }
 {}
 
 /// Law: where a log says what the logged volume is, the log that a step writes says what the step leaves of it. The
