@@ -1,29 +1,28 @@
 -- A log step in place of which no full commit is made leaves a coherent logged volume, in both forms.
-use Rattle.std.proofs.Common.{◌≡◌, ℕ, Bool, true, false, cond, not, ◌&&◌, List, [], ◌∷◌, length, Option, Some, None, refl, sym, ap, subst, ◌∙◌, inl, inr, ◌⊎◌}
+use Rattle.std.proofs.Common.{◌≡◌, ℕ, Bool, true, false, cond, not, ◌&&◌, List, [], ◌∷◌, length, Option, Some, None, refl, sym, ap, subst, ◌∙◌, inl, inr}
 use Rattle.std.specs.Bool.{nat_lt}
-use Rattle.std.specs.List.{Contains, filter, list_any}
+use Rattle.std.specs.List.{Contains, filter}
 use Rattle.std.specs.FinMap.{get, insert}
 use Rattle.std.specs.Option.{is_some}
-use Rattle.std.proofs.lemmas.Bool.{true≢false, and_parts, and_from, eq-eqb, not_from_false, not-true, cases_eq, cases_Bool, false_from_ne_true}
+use Rattle.std.proofs.lemmas.Bool.{and_parts, and_from, eq-eqb, not_from_false, cases_eq}
 use Rattle.flat_model.specs.declared.answer.Reason.{Reason}
 use Rattle.flat_model.specs.declared.answer.Reason.TheVariants.{Conflicts, GoneDir}
-use Rattle.flat_model.specs.Records.{InodeRecord, kind_of, is_dir_record}
-use Rattle.flat_model.specs.Names.{FlatName, stands_in}
-use Rattle.flat_model.specs.Volume.{Subvolume, is_dir_at}
+use Rattle.flat_model.specs.Records.{kind_of}
+use Rattle.flat_model.specs.Names.{stands_in}
+use Rattle.flat_model.specs.Volume.{Subvolume}
 use Rattle.flat_model.specs.Coherent.{IsCoherent}
-use Rattle.flat_model.specs.Operations.{with_record}
-use Rattle.flat_model.proofs.Lists.{contains_head, contains_none, contains_filter}
+use Rattle.flat_model.proofs.Lists.{contains_none, contains_filter}
 use Rattle.flat_model.proofs.Maps.{some_same, some_none, get_insert_same, get_insert_other, insert_cases}
 use Rattle.flat_model.proofs.Edits.{coherent_with_record}
 use Rattle.logged_volume.specs.Numbers.{is_in}
 use Rattle.logged_volume.specs.Agreement.{Agree, KeepsCommon, AreStep, is_there}
-use Rattle.logged_volume.specs.Drawn.{drawn_set, is_data_form, members_of, conflicts_of, is_stranding, first_of, stranded_of}
+use Rattle.logged_volume.specs.Drawn.{drawn_set, is_data_form, conflicts_of, is_stranding, first_of, stranded_of}
 use Rattle.logged_volume.specs.LogStep.{stepped, with_data, log_step}
 use Rattle.logged_volume.specs.Rules.{RoomNumbers, room_reason, most_conflicts, commit_reason}
 use Rattle.logged_volume.proofs.Members.{any_from, in_gives}
 use Rattle.logged_volume.proofs.SameKinds.{same_dir, same_count}
 use Rattle.logged_volume.proofs.LeastSets.{least_set_closed}
-use Rattle.logged_volume.proofs.Stepped.{there_gives, there_from}
+use Rattle.logged_volume.proofs.Stepped.{there_gives}
 use Rattle.logged_volume.proofs.StepCoherence.{StrandsNone, stepped_coherent, stepped_agrees, stepped_common}
 
 -- what a log step leaves
@@ -44,7 +43,7 @@ with_data_coherent current logged target step there =
     let is : (elim (get current.inodes target) [ None ↦ logged | Some inode ↦ record logged { inodes = insert logged.inodes target inode } ]) ≡ next = ap (λ o. elim o [ None ↦ logged | Some inode ↦ record logged { inodes = insert logged.inodes target inode } ]) now.1 in
     subst (LeavesCoherent current logged) (sym is) (record {
       coherent = coherent_with_record logged step.logged_coherent target old.0 now.0 old.1 (same_dir now.0 old.0 kind) (same_count old.0 now.0 (sym kind))
-        (step.current_coherent.limits target now.0 now.1) (step.current_coherent.items_fit.attributes target now.0 now.1);
+          (step.current_coherent.limits target now.0 now.1) (step.current_coherent.items_fit.attributes target now.0 now.1);
       agrees = record {
         kinds = λ ino here other found e. elim (insert_cases logged.inodes target now.0 ino other e) [
           | inl new ↦ ap kind_of (some_same here now.0 (sym found ∙ ap (get current.inodes) new.0 ∙ now.1) ∙ sym new.1)

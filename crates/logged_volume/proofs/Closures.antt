@@ -1,7 +1,7 @@
 -- Facts on what is reached step by step: it is closed, and lies in whatever is closed.
 use Rattle.std.proofs.Common.{◌≡◌, ℕ, zero, suc, ◌+◌, ◌<◌, ◌≤◌, Bool, true, false, cond, ◌||◌, List, [], ◌∷◌, length, refl, sym, ap, subst, ◌∙◌, arith, inl, inr, ◌⊎◌}
 use Rattle.std.specs.List.{Contains, list_any, filter}
-use Rattle.std.proofs.lemmas.Bool.{true≢false, or_cases, or_left, or_right}
+use Rattle.std.proofs.lemmas.Bool.{or_cases, or_left, or_right}
 use Rattle.flat_model.proofs.Lists.{contains_head, contains_tail, contains_filter, filter_contains}
 use Rattle.logged_volume.specs.Numbers.{is_in, is_number_set, next_round, after_rounds, reached}
 use Rattle.logged_volume.proofs.Members.{any_from, any_gives, in_from, in_gives, is_set_filter}

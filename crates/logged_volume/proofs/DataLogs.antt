@@ -1,11 +1,10 @@
 -- What the data form writes into a log says what the step leaves of R; so does the empty log of C.
-use Rattle.std.proofs.Common.{◌≡◌, ℕ, Bool, true, false, cond, not, ◌&&◌, ◌||◌, List, [], ◌∷◌, ◌++◌, Option, Some, None, refl, sym, ap, subst, ◌∙◌, inl, inr, ◌⊎◌}
-use Rattle.std.specs.Bool.{nat_eq}
+use Rattle.std.proofs.Common.{◌≡◌, ℕ, true, false, cond, not, ◌&&◌, ◌||◌, ◌++◌, Some, None, refl, sym, ap, subst, ◌∙◌, inl, inr}
 use Rattle.std.specs.Option.{is_some}
 use Rattle.std.specs.Ordering.{nat_cmp}
 use Rattle.std.specs.List.{Contains, filter}
 use Rattle.std.specs.FinMap.{get, insert, empty, get-empty}
-use Rattle.std.proofs.lemmas.Bool.{true≢false, or_left, or_right, or_parts, or_from, and_parts, and_from, eqb-true, eq-eqb, ne_eqb, not-true, not_from_false, cases_eq, false_from_ne_true}
+use Rattle.std.proofs.lemmas.Bool.{true≢false, or_left, or_from, and_parts, and_from, eqb-true, eq-eqb, ne_eqb, not_from_false, cases_eq, false_from_ne_true}
 use Rattle.std.proofs.lemmas.List.Elements.{Contains-append_left, Contains-append_right, Contains-append_cases}
 use Rattle.flat_model.specs.Records.{InodeRecord}
 use Rattle.flat_model.specs.Names.{FlatName, name_set, is_name_set, leads_to}
@@ -15,8 +14,8 @@ use Rattle.flat_model.proofs.Lists.{contains_none, contains_filter, filter_conta
 use Rattle.flat_model.proofs.Maps.{some_same, some_none, get_insert_same, get_insert_other}
 use Rattle.logged_volume.specs.Agreement.{is_there}
 use Rattle.logged_volume.specs.LogStep.{with_data}
-use Rattle.logged_volume.specs.FlatLog.{WholeInode, LogEntry, FlatLog, empty_log, is_logged, is_dropped, entry_of}
-use Rattle.logged_volume.specs.Written.{HasTarget, IsDataWritten, IsWholeOf}
+use Rattle.logged_volume.specs.FlatLog.{WholeInode, FlatLog, empty_log, is_logged, is_dropped, entry_of}
+use Rattle.logged_volume.specs.Written.{IsDataWritten, IsWholeOf}
 use Rattle.logged_volume.specs.Standing.{StandsWhole, StandsExisting, IsLogOf, AreLogStep}
 use Rattle.logged_volume.proofs.Members.{name_set_has, name_set_gives, is_set_name_set}
 use Rattle.logged_volume.proofs.Covers.{dropped_gives, dropped_from}

@@ -1,7 +1,7 @@
 -- Facts on the intervals between numbers.
-use Rattle.std.proofs.Common.{◌≡◌, ℕ, ◌+◌, ◌-◌, ◌<◌, ◌≤◌, Bool, true, false, ◌&&◌, List, [], ◌∷◌, map, refl, sym, ap, subst, ◌∙◌, arith, inl, inr, ◌⊎◌}
+use Rattle.std.proofs.Common.{◌≡◌, ℕ, ◌+◌, ◌<◌, ◌≤◌, true, ◌&&◌, List, [], ◌∷◌, map, sym, ap, subst, arith, inl, inr}
 use Rattle.std.specs.Bool.{nat_le, nat_lt}
-use Rattle.std.specs.List.{Contains, filter, list_all}
+use Rattle.std.specs.List.{Contains, list_all}
 use Rattle.std.proofs.lemmas.Bool.{and_parts, and_from, cases_order, le-leb, lt-ltb, ltb-true}
 use Rattle.flat_model.proofs.Lists.{contains_head, contains_tail, contains_none, contains_cases, contains_filter, filter_contains}
 use Rattle.logged_volume.specs.Numbers.{is_number_set, number_set, gaps, is_met, gaps_with}

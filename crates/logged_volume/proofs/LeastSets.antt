@@ -1,14 +1,13 @@
 -- The least set under the rules of an fsync is there, and it is one.
-use Rattle.std.proofs.Common.{◌≡◌, ℕ, Bool, true, false, ◌&&◌, ◌||◌, List, [], ◌∷◌, ◌++◌, flat_map, refl, sym, ap, subst, ◌∙◌, inl, inr, ◌⊎◌}
+use Rattle.std.proofs.Common.{◌≡◌, ℕ, Bool, true, ◌&&◌, ◌||◌, List, [], ◌∷◌, ◌++◌, refl, sym, subst, ◌∙◌, inl, inr}
 use Rattle.std.specs.List.{Contains, list_any}
-use Rattle.std.proofs.lemmas.Bool.{true≢false, or_cases, or_left, or_right, and_parts, and_from, eqb-true, eq-eqb}
+use Rattle.std.proofs.lemmas.Bool.{or_cases, or_left, or_right, and_parts, and_from, eqb-true, eq-eqb}
 use Rattle.std.proofs.lemmas.List.Elements.{Contains-append_left, Contains-append_right}
 use Rattle.flat_model.specs.Names.{FlatName, leads_to, stands_in}
-use Rattle.flat_model.specs.Volume.{Subvolume, is_dir_at}
+use Rattle.flat_model.specs.Volume.{Subvolume}
 use Rattle.flat_model.proofs.Lists.{contains_head, contains_tail}
-use Rattle.logged_volume.specs.Numbers.{is_in, is_number_set, number_set, reached}
-use Rattle.logged_volume.specs.Agreement.{is_there, do_names_differ}
-use Rattle.logged_volume.specs.Drawn.{LeadsTo, IsAbove, is_parent, numbers_in, dirs_above, is_out_of_step, is_first, is_one_slot, is_in_slots_of, DrawsAbove, DrawsSlots, IsClosed, IsLeast, does_draw, all_numbers, least_set}
+use Rattle.logged_volume.specs.Numbers.{is_in, number_set}
+use Rattle.logged_volume.specs.Drawn.{LeadsTo, IsAbove, is_parent, numbers_in, dirs_above, is_first, is_one_slot, is_in_slots_of, IsClosed, IsLeast, does_draw, all_numbers, least_set}
 use Rattle.logged_volume.proofs.Members.{any_from, any_gives, flat_map_has, in_from, in_gives, number_set_has, is_set_number_set, same_number_set}
 use Rattle.logged_volume.proofs.Closures.{reached_first, reached_closed, reached_within, reached_set}
 
@@ -40,8 +39,8 @@ above_gives names ino dir t =
     reached_within (number_set (numbers_in names)) (is_parent names) (IsAbove names ino) (is_parent names ino)
     (λ d first. let found = parent_gives names ino d first in (found.0, [], (found.1, found.2, found.3)))
     (λ member d above parent.
-        let found = parent_gives names member d parent in
-        (above.0, above.1 ++ found.0 ∷ [], subst (LeadsTo names ino (above.0 ∷ above.1 ++ found.0 ∷ [])) found.3 (leads_further names (above.0 ∷ above.1) ino member found.0 above.2 found.1 found.2)))
+    let found = parent_gives names member d parent in
+    (above.0, above.1 ++ found.0 ∷ [], subst (LeadsTo names ino (above.0 ∷ above.1 ++ found.0 ∷ [])) found.3 (leads_further names (above.0 ∷ above.1) ino member found.0 above.2 found.1 found.2)))
     dir (in_gives _ dir t)
 
 way_is_above : (names : List FlatName) (ino : ℕ) (way : List FlatName) (member dir : ℕ) → Contains (dirs_above names ino) member → LeadsTo names member way dir → Contains (dirs_above names ino) dir
@@ -122,11 +121,11 @@ least_set_within current logged target with_slots has closed ino c =
     reached_within (all_numbers current logged target) (does_draw current logged with_slots) (λ i. has i ≡ true) (is_first current logged target)
     closed.first
     (λ member i here t.
-        let parts = and_parts _ _ t in
-        elim (or_cases _ _ parts.1) [
-          | inl above ↦ let both = and_parts _ _ above in closed.above member i here (parts.0, above_gives current.names member i both.0, both.1)
-          | inr slot ↦ let both = and_parts _ _ slot in closed.slots member i both.0 here (parts.0, both.1)
-        ])
+    let parts = and_parts _ _ t in
+    elim (or_cases _ _ parts.1) [
+      | inl above ↦ let both = and_parts _ _ above in closed.above member i here (parts.0, above_gives current.names member i both.0, both.1)
+      | inr slot ↦ let both = and_parts _ _ slot in closed.slots member i both.0 here (parts.0, both.1)
+    ])
     ino (in_gives _ ino c)
 
 pub least_set_is_least : (current logged : Subvolume) (target : ℕ) (with_slots : Bool) → IsLeast current logged target with_slots (least_set current logged target with_slots)

@@ -1,16 +1,15 @@
 -- What a log step writes, in both forms, says what it leaves of R; which inodes come into the log.
-use Rattle.std.proofs.Common.{◌≡◌, ℕ, Bool, true, false, cond, not, ◌&&◌, ◌||◌, List, [], ◌∷◌, Option, Some, None, refl, sym, ap, subst, ◌∙◌, inl, inr, ◌⊎◌, MatchBool}
+use Rattle.std.proofs.Common.{◌≡◌, ℕ, Bool, true, false, cond, not, ◌&&◌, ◌||◌, List, [], ◌∷◌, Option, None, refl, sym, ap, ◌∙◌, inl, inr, ◌⊎◌, MatchBool}
 use Rattle.std.specs.Bool.{nat_eq}
 use Rattle.std.specs.Option.{is_some, option_map}
 use Rattle.std.specs.FinMap.{get}
-use Rattle.std.proofs.lemmas.Bool.{true≢false, or_cases, or_left, or_right, and_parts, eq-eqb, ne_eqb, cases_eq}
-use Rattle.flat_model.specs.Records.{InodeRecord, at_creation}
+use Rattle.std.proofs.lemmas.Bool.{true≢false, or_cases, or_left, or_right, and_parts, eq-eqb, cases_eq}
+use Rattle.flat_model.specs.Records.{at_creation}
 use Rattle.flat_model.specs.Volume.{Subvolume}
 use Rattle.logged_volume.specs.Numbers.{is_in}
-use Rattle.logged_volume.specs.Agreement.{is_there}
-use Rattle.logged_volume.specs.Drawn.{IsClosed, is_first, drawn_set, is_data_form, members_of, is_stranding, first_of, stranded_of, conflicts_of}
+use Rattle.logged_volume.specs.Drawn.{drawn_set, is_data_form, members_of}
 use Rattle.logged_volume.specs.LogStep.{stepped, with_data, log_step}
-use Rattle.logged_volume.specs.Rules.{RoomNumbers, room_reason, commit_reason}
+use Rattle.logged_volume.specs.Rules.{RoomNumbers, commit_reason}
 use Rattle.logged_volume.specs.FlatLog.{FlatLog, is_logged, is_whole}
 use Rattle.logged_volume.specs.Written.{is_gone, IsFsyncWritten, IsDataWritten, IsWritten}
 use Rattle.logged_volume.specs.Standing.{IsLogOf, AreLogStep}
@@ -22,8 +21,8 @@ use Rattle.logged_volume.proofs.DataLogs.{data_writes_log}
 pub step_writes_log : (committed current logged : Subvolume) (target : ℕ) (datasync : Bool) (room : RoomNumbers) (log after : FlatLog) → AreLogStep committed current logged target log → commit_reason current logged target datasync room ≡ None → IsWritten committed current logged target datasync log after → IsLogOf committed (log_step current logged target datasync) after
 step_writes_log committed current logged target datasync room log after are none written =
     elim (is_data_form logged target datasync) as (λ b. is_data_form logged target datasync ≡ b →
-      MatchBool b (IsDataWritten committed current target log after) (IsFsyncWritten committed current logged target (drawn_set current logged target) (cond b (with_data current logged target) (stepped current logged target (drawn_set current logged target))) log after)
-      → IsLogOf committed (cond b (with_data current logged target) (stepped current logged target (drawn_set current logged target))) after) [
+    MatchBool b (IsDataWritten committed current target log after) (IsFsyncWritten committed current logged target (drawn_set current logged target) (cond b (with_data current logged target) (stepped current logged target (drawn_set current logged target))) log after)
+    → IsLogOf committed (cond b (with_data current logged target) (stepped current logged target (drawn_set current logged target))) after) [
       | true ↦ λ t w. data_writes_log committed current logged target log after are (and_parts _ _ t).1 w
       | false ↦ λ f w.
           fsync_writes_log committed current logged target (drawn_set current logged target) log after are
@@ -71,7 +70,7 @@ data_members committed current target log after written ino t =
 pub members_come : (committed current logged : Subvolume) (target : ℕ) (datasync : Bool) (log after : FlatLog) (ino : ℕ) → IsWritten committed current logged target datasync log after → is_logged after ino ≡ true → (is_logged log ino ≡ true) ⊎ (is_in (members_of current logged target datasync) ino ≡ true)
 members_come committed current logged target datasync log after ino written t =
     elim (is_data_form logged target datasync) as (λ b. MatchBool b (IsDataWritten committed current target log after) (IsFsyncWritten committed current logged target (drawn_set current logged target) (cond b (with_data current logged target) (stepped current logged target (drawn_set current logged target))) log after)
-      → (is_logged log ino ≡ true) ⊎ (is_in (cond b (target ∷ []) (drawn_set current logged target)) ino ≡ true)) [
+    → (is_logged log ino ≡ true) ⊎ (is_in (cond b (target ∷ []) (drawn_set current logged target)) ino ≡ true)) [
       | true ↦ λ w. data_members committed current target log after w ino t
       | false ↦ λ w.
           let first = (least_set_closed current logged target true).first target (or_left _ _ (eq-eqb target target refl)) in

@@ -1,15 +1,15 @@
 -- Facts on membership: tests over lists, sets of numbers and names, and maps made from functions.
-use Rattle.std.proofs.Common.{◌≡◌, ℕ, ◌<◌, Bool, true, false, cond, ◌&&◌, ◌||◌, List, [], ◌∷◌, ◌++◌, flat_map, Option, Some, None, refl, sym, ap, subst, ◌∙◌, arith, inl, inr, ◌⊎◌}
+use Rattle.std.proofs.Common.{◌≡◌, ℕ, Bool, true, false, cond, ◌||◌, List, [], ◌∷◌, flat_map, Option, Some, None, refl, sym, ap, subst, ◌∙◌, arith, inl, inr, ◌⊎◌}
 use Rattle.std.specs.Bool.{nat_eq, nat_lt}
 use Rattle.std.specs.Ordering.{nat_cmp}
 use Rattle.std.specs.List.{Contains, list_any, list_all, filter}
 use Rattle.std.specs.FinMap.{FinMap, empty, get, insert, keys, get-empty, contains_key, contains_key-keys}
 use Rattle.std.proofs.lemmas.Bool.{true≢false, or_cases, or_left, or_right, and_parts, and_from, eqb-true, eq-eqb, ne_eqb, cases_eq, ltb-true, ltb-false, lt-ltb}
-use Rattle.std.proofs.lemmas.List.Elements.{Contains-append_left, Contains-append_right, Contains-append_cases}
+use Rattle.std.proofs.lemmas.List.Elements.{Contains-append_left, Contains-append_right}
 use Rattle.std.specs.Cmp.{unsigned_tied}
 use Rattle.flat_model.specs.Names.{FlatName, add_name, name_set, is_name_set}
-use Rattle.flat_model.proofs.Lists.{contains_head, contains_tail, contains_none, contains_cases, contains_filter, filter_contains}
-use Rattle.flat_model.proofs.Maps.{some_none, get_insert_same, get_insert_other}
+use Rattle.flat_model.proofs.Lists.{contains_head, contains_tail, contains_none, contains_cases, filter_contains}
+use Rattle.flat_model.proofs.Maps.{get_insert_same, get_insert_other}
 use Rattle.flat_model.proofs.NameSets.{add_name_cases, add_name_has, add_name_keeps, is_name_set_add}
 use Rattle.logged_volume.specs.Numbers.{is_in, is_number_set, add_number, number_set, map_of}
 
@@ -177,14 +177,14 @@ same_number_set (x ∷ xs) (y ∷ ys) s u f g =
       ]
     ] in
     let rest : xs ≡ ys = same_number_set xs ys sx.1 uy.1
-      (λ i c. elim (contains_cases y ys i (f i (contains_tail x xs i c))) [
-        | inl e ↦ let one = above_x i c in absurd (omega (arith, same, e))
-        | inr h ↦ h
-      ])
-      (λ i c. elim (contains_cases x xs i (g i (contains_tail y ys i c))) [
-        | inl e ↦ let one = above_y i c in absurd (omega (arith, same, e))
-        | inr h ↦ h
-      ]) in
+    (λ i c. elim (contains_cases y ys i (f i (contains_tail x xs i c))) [
+      | inl e ↦ let one = above_x i c in absurd (omega (arith, same, e))
+      | inr h ↦ h
+    ])
+    (λ i c. elim (contains_cases x xs i (g i (contains_tail y ys i c))) [
+      | inl e ↦ let one = above_y i c in absurd (omega (arith, same, e))
+      | inr h ↦ h
+    ]) in
     λ k. same k ∷ rest k
 
 -- ---- sets of names

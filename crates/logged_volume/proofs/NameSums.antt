@@ -40,11 +40,11 @@ distinct_cost (name ∷ names) all set distinct within =
     let front = parts.0 in
     let back = parts.1 in
     let rest = distinct_cost names (front ++ back) (set_tail name names set)
-      (λ one two c d same. distinct one two (contains_tail name names one c) (contains_tail name names two d) same)
-      (λ other c. elim (around front name.bytes back other.bytes (subst (λ l. Contains l other.bytes) parts.2 (within other (contains_tail name names other c)))) [
-        | inl same ↦ absurd (set_head_once name names set (subst (Contains names) (sym (distinct name other (contains_head name names) (contains_tail name names other c) same)) c))
-        | inr stays ↦ stays
-      ]) in
+    (λ one two c d same. distinct one two (contains_tail name names one c) (contains_tail name names two d) same)
+    (λ other c. elim (around front name.bytes back other.bytes (subst (λ l. Contains l other.bytes) parts.2 (within other (contains_tail name names other c)))) [
+      | inl same ↦ absurd (set_head_once name names set (subst (Contains names) (sym (distinct name other (contains_head name names) (contains_tail name names other c) same)) c))
+      | inr stays ↦ stays
+    ]) in
     let whole = ap (sum_by bytes_cost) parts.2 ∙ sum_by-append bytes_cost front (name.bytes ∷ back) in
     let tail = sum_by-cons bytes_cost name.bytes back in
     let less = sum_by-append bytes_cost front back in

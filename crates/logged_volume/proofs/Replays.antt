@@ -1,31 +1,28 @@
 -- Replay of a log that says what R is leaves R, and a mount accepts that log.
-use Rattle.std.proofs.Common.{◌≡◌, ◌≢◌, ℕ, ◌<◌, ◌≤◌, Bool, true, false, cond, not, ◌&&◌, ◌||◌, List, [], ◌∷◌, ◌++◌, length, Option, Some, None, refl, sym, ap, subst, ◌∙◌, arith, inl, inr, ◌⊎◌}
+use Rattle.std.proofs.Common.{◌≡◌, ℕ, ◌<◌, true, false, cond, not, ◌&&◌, ◌||◌, List, ◌++◌, Option, Some, None, refl, sym, ap, subst, ◌∙◌, arith, inl, inr, ◌⊎◌}
 use Rattle.std.specs.Bool.{nat_eq, nat_lt}
 use Rattle.std.specs.Option.{is_some, unwrap_or}
-use Rattle.std.specs.Ordering.{nat_cmp}
 use Rattle.std.specs.Cmp.{nat_cmp_total}
 use Rattle.std.specs.List.{Contains, filter}
-use Rattle.std.specs.FinMap.{get, keys, retain_keys, same_map, nat_cmp-IsAntisymmetric, get-retain_keys}
+use Rattle.std.specs.FinMap.{get, keys, same_map, nat_cmp-IsAntisymmetric, get-retain_keys}
 use Rattle.std.proofs.lemmas.Bool.{true≢false, or_cases, or_left, or_right, or_parts, and_parts, and_from, eqb-true, eq-eqb, ne_eqb, lt-ltb, not-true, not_from_false, not_from_true, cases_eq, cases_Bool}
 use Rattle.std.proofs.lemmas.List.Elements.{Contains-append_left, Contains-append_right, Contains-append_cases}
 use Rattle.flat_model.specs.Records.{InodeRecord, FileInode, DirInode, LinkInode, kind_of, at_creation}
 use Rattle.flat_model.specs.Names.{FlatName, is_name_set, name_set, links_of}
-use Rattle.flat_model.specs.Volume.{Subvolume, is_dir_at}
+use Rattle.flat_model.specs.Volume.{Subvolume}
 use Rattle.flat_model.specs.Coherent.{IsCoherent, IsLinkCount}
 use Rattle.flat_model.proofs.Lists.{contains_filter, filter_contains}
-use Rattle.flat_model.proofs.Maps.{some_same, some_none}
 use Rattle.flat_model.proofs.NameSets.{same_name_set}
 use Rattle.flat_model.proofs.OneName.{no_links}
 use Rattle.logged_volume.specs.Numbers.{map_of}
 use Rattle.logged_volume.specs.Agreement.{Agree, is_there}
-use Rattle.logged_volume.specs.FlatLog.{WholeInode, FlatLog, is_logged, is_dropped}
-use Rattle.logged_volume.specs.Replay.{replayed_inode, replayed_record, drop_ranged, drop_logged, add_logged, take_records, drop_nameless, replay, names_left}
-use Rattle.logged_volume.specs.Accepted.{kind_of_whole, KeepsWholeLimits, AreApart, IsAccepted}
-use Rattle.logged_volume.specs.Written.{IsWholeOf}
+use Rattle.logged_volume.specs.FlatLog.{FlatLog, is_logged, is_dropped}
+use Rattle.logged_volume.specs.Replay.{replayed_inode, replayed_record, drop_ranged, drop_logged, add_logged, replay, names_left}
+use Rattle.logged_volume.specs.Accepted.{AreApart, IsAccepted}
 use Rattle.logged_volume.specs.Standing.{IsLogOf}
 use Rattle.logged_volume.proofs.Members.{name_set_has, name_set_gives, is_set_name_set, get_map_of_all, key_is_in}
 use Rattle.logged_volume.proofs.SameKinds.{creation_kind}
-use Rattle.logged_volume.proofs.Stepped.{there_gives, there_from, absent_gives, dir_is_there}
+use Rattle.logged_volume.proofs.Stepped.{there_from, dir_is_there}
 use Rattle.logged_volume.proofs.Wholes.{whole_restored, whole_kind, whole_limits, creation_twice}
 
 -- ---- names
@@ -156,6 +153,7 @@ module _ (committed logged : Subvolume) (log : FlatLog) (coherent : IsCoherent l
       existing_is : (o : Option InodeRecord) (made : InodeRecord) → elim o as (λ _. Option InodeRecord) [ None ↦ Some made | Some inode ↦ Some inode ] ≡ Some (unwrap_or o made)
       existing_is None made = refl
       existing_is (Some was) made = refl
+
       other_is : (o : Option InodeRecord) (inode : InodeRecord) → o ≡ Some inode → elim o as (λ _. Option InodeRecord) [ None ↦ None | Some inode ↦ Some inode ] ≡ Some inode
       other_is None inode e = e
       other_is (Some was) inode e = e

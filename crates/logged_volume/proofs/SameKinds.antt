@@ -1,16 +1,12 @@
 -- What depends on an inode's kind alone, and what holds of a record at creation.
-use Rattle.std.proofs.Common.{◌≡◌, ℕ, ◌≤◌, Bool, true, false, List, [], Option, Some, None, refl, sym, ap, subst, ◌∙◌, arith}
+use Rattle.std.proofs.Common.{◌≡◌, ℕ, ◌≤◌, Bool, true, false, List, [], Some, refl, sym, ap, subst, ◌∙◌, arith}
 use Rattle.std.specs.Ordering.{nat_cmp}
 use Rattle.std.specs.Cmp.Lexicographic.{slice_cmp}
-use Rattle.std.specs.FinMap.{get, empty, entries, get-empty, len, len-empty, len-entries}
-use Rattle.std.specs.List.{filter, sum_by}
-use Rattle.std.specs.Option.{is_some}
-use Rattle.std.proofs.lemmas.Bool.{true≢false}
+use Rattle.std.specs.FinMap.{get, empty, entries, get-empty, len-empty, len-entries}
 use Rattle.flat_model.specs.declared.view.Kind.{Kind}
 use Rattle.flat_model.specs.declared.view.Kind.TheVariants.{File, Dir, Link}
-use Rattle.flat_model.specs.Records.{Attributes, InodeRecord, FileInode, DirInode, LinkInode, kind_of, is_dir_record, attributes_of, at_creation}
+use Rattle.flat_model.specs.Records.{InodeRecord, FileInode, DirInode, LinkInode, kind_of, is_dir_record, attributes_of, at_creation}
 use Rattle.flat_model.specs.Lengths.{most_item_bytes, xattr_item_length}
-use Rattle.flat_model.specs.Volume.{Subvolume, is_dir_at, is_dir_there}
 use Rattle.flat_model.specs.Coherent.{IsLinkCount, KeepsLimits}
 use Rattle.flat_model.proofs.Maps.{some_none, no_length}
 

@@ -1,32 +1,32 @@
 -- A log step that strands no directory leaves a coherent logged volume.
-use Rattle.std.proofs.Common.{◌≡◌, ◌≢◌, ℕ, ◌+◌, ◌≤◌, Bool, true, false, cond, not, ◌&&◌, ◌||◌, List, [], ◌∷◌, ◌++◌, length, map, Option, Some, None, refl, sym, ap, subst, ◌∙◌, arith, inl, inr, ◌⊎◌}
+use Rattle.std.proofs.Common.{◌≡◌, ◌≢◌, ℕ, ◌≤◌, Bool, true, false, not, ◌&&◌, List, [], ◌∷◌, ◌++◌, length, map, Some, refl, sym, ap, subst, ◌∙◌, arith, inl, inr, ◌⊎◌}
 use Rattle.std.specs.Bool.{nat_eq, nat_lt}
 use Rattle.std.specs.List.{Contains, filter, list_any, sum_by}
 use Rattle.std.specs.FinMap.{get}
 use Rattle.std.specs.Str.{bytes_eq}
-use Rattle.std.proofs.lemmas.Bool.{true≢false, or_cases, or_left, or_right, or_parts, and_parts, and_from, eqb-true, eq-eqb, not-true, ltb-false, not_from_false}
+use Rattle.std.proofs.lemmas.Bool.{true≢false, or_left, or_right, or_parts, and_parts, and_from, eqb-true, eq-eqb, ltb-false, not_from_false}
 use Rattle.std.proofs.lemmas.List.Sums.{sum_by-append}
 use Rattle.std.proofs.lemmas.List.Elements.{Contains-append_left, Contains-append_right}
 use Rattle.blk_base.specs.Crc.{name_hash_of}
-use Rattle.flat_model.specs.Records.{InodeRecord, LinkRecord, LinkInode, kind_of, is_dir_record, attributes_of, at_creation}
-use Rattle.flat_model.specs.Names.{FlatName, leads_to, stands_in, is_in_slot, names_of, links_of}
+use Rattle.flat_model.specs.Records.{InodeRecord, LinkInode, kind_of, attributes_of}
+use Rattle.flat_model.specs.Names.{FlatName, leads_to, is_in_slot, names_of, links_of}
 use Rattle.flat_model.specs.Lengths.{most_item_bytes, ref_item_length, extref_item_length, dir_item_length, xattr_item_length, entry_length, ref_length, extref_length}
-use Rattle.flat_model.specs.Volume.{Subvolume, is_dir_at, is_dir_there}
+use Rattle.flat_model.specs.Volume.{Subvolume, is_dir_at}
 use Rattle.flat_model.specs.Coherent.{IsCoherent, LeadsUp, IsLinkCount, KeepsLimits, IsInoNumber}
-use Rattle.flat_model.proofs.Lists.{contains_head, contains_tail, contains_filter, filter_contains}
-use Rattle.flat_model.proofs.Maps.{some_same, some_none}
+use Rattle.flat_model.proofs.Lists.{contains_filter, filter_contains}
+use Rattle.flat_model.proofs.Maps.{some_same}
 use Rattle.flat_model.proofs.NameSets.{is_name_set_filter}
-use Rattle.flat_model.proofs.Ways.{is_in_slot_gives, is_in_slot_from, bytes_eq_same}
+use Rattle.flat_model.proofs.Ways.{is_in_slot_gives, bytes_eq_same}
 use Rattle.flat_model.proofs.Edits.{link_fits}
 use Rattle.logged_volume.specs.Numbers.{is_in}
 use Rattle.logged_volume.specs.Agreement.{Agree, KeepsCommon, AreStep, is_there, do_names_differ}
-use Rattle.logged_volume.specs.Drawn.{LeadsTo, IsAbove, is_out_of_step, names_beside, is_crowded_hash, is_one_slot, is_in_slots_of, IsClosed}
+use Rattle.logged_volume.specs.Drawn.{IsAbove, is_out_of_step, names_beside, is_crowded_hash, is_one_slot, IsClosed}
 use Rattle.logged_volume.specs.LogStep.{stepped}
 use Rattle.logged_volume.proofs.Members.{any_from, any_gives, none_gives}
 use Rattle.logged_volume.proofs.LeastSets.{leads_further}
 use Rattle.logged_volume.proofs.SameKinds.{same_dir, same_count, creation_limits, creation_fits}
 use Rattle.logged_volume.proofs.NameSums.{bytes_cost, cost_of_entries, bytes_of_member, distinct_cost}
-use Rattle.logged_volume.proofs.Stepped.{there_gives, there_from, absent_gives, dir_is_there, agree_on_dir, same_names_here, stepped_cases, stepped_has, stepped_keeps, stepped_in_order, filter_of_members, filter_of_others, other_inode, MemberIs, member_there, member_gives, member_kind, member_dir, other_dir}
+use Rattle.logged_volume.proofs.Stepped.{there_gives, there_from, dir_is_there, agree_on_dir, same_names_here, stepped_cases, stepped_has, stepped_keeps, stepped_in_order, filter_of_members, filter_of_others, other_inode, member_there, member_gives, member_kind, member_dir, other_dir}
 
 -- no directory is stranded: what a gone member has in R as a directory leads to members
 abbrev pub StrandsNone : Subvolume → Subvolume → List ℕ → Type 0
@@ -37,11 +37,12 @@ module _ (current logged : Subvolume) (target : ℕ) (members : List ℕ) (step 
   slot_is_members : (name other : FlatName) → Contains current.names name → Contains logged.names other → is_in members name.ino ≡ true → is_one_slot current logged name other ≡ true → is_in members other.ino ≡ true
   slot_is_members name other c d t slot =
       let found = step.current_coherent.leads_to_inode name c in
-      closed.slots name.ino other.ino refl t
-      (there_from current name.ino found.0 found.1,
-        any_from (λ name' . leads_to name.ino name' && list_any (λ other'. leads_to other.ino other' && is_one_slot current logged name' other') logged.names) current.names name c
-        (and_from _ _ (eq-eqb name.ino name.ino refl)
-        (any_from (λ other'. leads_to other.ino other' && is_one_slot current logged name other') logged.names other d (and_from _ _ (eq-eqb other.ino other.ino refl) slot))))
+      closed.slots name.ino other.ino refl t (
+        there_from current name.ino found.0 found.1,
+        any_from (λ name'. leads_to name.ino name' && list_any (λ other'. leads_to other.ino other' && is_one_slot current logged name' other') logged.names) current.names name c
+            (and_from _ _ (eq-eqb name.ino name.ino refl)
+            (any_from (λ other'. leads_to other.ino other' && is_one_slot current logged name other') logged.names other d (and_from _ _ (eq-eqb other.ino other.ino refl) slot))),
+      )
 
   same_slot : (name other : FlatName) → name.dir ≡ other.dir → name.bytes ≡ other.bytes → is_one_slot current logged name other ≡ true
   same_slot name other same_dir same_bytes = and_from _ _ (eq-eqb name.dir other.dir same_dir) (or_left _ _ (bytes_eq_same name.bytes other.bytes same_bytes))
@@ -241,11 +242,11 @@ module _ (current logged : Subvolume) (target : ℕ) (members : List ℕ) (step 
     next_cost all within =
         let names = (stepped current logged target members).names in
         let cost = distinct_cost (filter of_hash names) all (is_name_set_filter of_hash names (stepped_in_order current logged target members))
-          (λ one two c d same.
-              let a = filter_contains of_hash names one c in
-              let b = filter_contains of_hash names two d in
-              next_no_name_twice one two a.0 b.0 ((of_hash_gives one a.1).0 ∙ sym (of_hash_gives two b.1).0) same)
-          (λ q c. let found = filter_contains of_hash names q c in within q found.0 found.1) in
+        (λ one two c d same.
+        let a = filter_contains of_hash names one c in
+        let b = filter_contains of_hash names two d in
+        next_no_name_twice one two a.0 b.0 ((of_hash_gives one a.1).0 ∙ sym (of_hash_gives two b.1).0) same)
+        (λ q c. let found = filter_contains of_hash names q c in within q found.0 found.1) in
         subst (λ s. s ≤ sum_by bytes_cost all) (sym (dir_item_is names)) cost
 
     bytes_of : List FlatName → List (List ℕ)

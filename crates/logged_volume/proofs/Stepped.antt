@@ -1,22 +1,20 @@
 -- What a log step leaves: which names, and which records.
-use Rattle.std.proofs.Common.{◌≡◌, ◌≢◌, ℕ, Bool, true, false, cond, not, ◌&&◌, ◌||◌, List, [], ◌∷◌, ◌++◌, Option, Some, None, refl, sym, ap, subst, ◌∙◌, inl, inr, ◌⊎◌}
+use Rattle.std.proofs.Common.{◌≡◌, ℕ, Bool, true, false, cond, not, List, ◌++◌, Option, Some, None, refl, sym, ap, subst, ◌∙◌, inl, inr, ◌⊎◌}
 use Rattle.std.specs.Bool.{nat_eq}
 use Rattle.std.specs.Option.{unwrap_or, is_some}
-use Rattle.std.specs.List.{Contains, filter, list_any, list_all}
+use Rattle.std.specs.List.{Contains, filter}
 use Rattle.std.specs.FinMap.{get, keys}
-use Rattle.std.specs.Str.{bytes_eq}
-use Rattle.std.proofs.lemmas.Bool.{true≢false, not-true, not_from_false, not-false, not_from_true, and_parts, and_from, or_parts, eqb-true, eq-eqb, cases_Bool}
+use Rattle.std.proofs.lemmas.Bool.{true≢false, not-true, not_from_false, and_parts, eqb-true, eq-eqb}
 use Rattle.std.proofs.lemmas.List.Elements.{Contains-append_left, Contains-append_right, Contains-append_cases}
-use Rattle.flat_model.specs.Records.{InodeRecord, kind_of, is_dir_record, at_creation}
-use Rattle.flat_model.specs.Names.{FlatName, is_name_set, name_set, leads_to, names_of}
+use Rattle.flat_model.specs.Records.{InodeRecord, kind_of, at_creation}
+use Rattle.flat_model.specs.Names.{FlatName, is_name_set, leads_to, names_of}
 use Rattle.flat_model.specs.Volume.{Subvolume, is_dir_at, is_dir_there}
 use Rattle.flat_model.proofs.Lists.{contains_filter, filter_contains}
 use Rattle.flat_model.proofs.Maps.{some_same, some_none}
 use Rattle.flat_model.proofs.NameSets.{same_name_set, is_name_set_filter}
-use Rattle.flat_model.proofs.Ways.{same_bytes_eq}
-use Rattle.logged_volume.specs.Numbers.{is_in, map_of}
+use Rattle.logged_volume.specs.Numbers.{is_in}
 use Rattle.logged_volume.specs.Agreement.{Agree, is_there, is_same_unmarked, has_unmarked, do_names_differ}
-use Rattle.logged_volume.specs.LogStep.{member_record, stepped_record, stepped_names, stepped}
+use Rattle.logged_volume.specs.LogStep.{member_record, stepped_record, stepped}
 use Rattle.logged_volume.proofs.Members.{any_gives, all_gives, name_set_has, name_set_gives, is_set_name_set, get_map_of_all, key_is_in}
 use Rattle.logged_volume.proofs.SameKinds.{same_dir, creation_kind}
 
@@ -112,22 +110,22 @@ module _ (current logged : Subvolume) (target : ℕ) (members : List ℕ) where
   filter_of_members set p only =
       same_name_set _ _ (is_name_set_filter p _ stepped_in_order) (is_name_set_filter p current.names set)
       (λ q c.
-          let found = filter_contains p _ q c in
-          elim (stepped_cases q found.0) [
-            | inl ours ↦ contains_filter p current.names q found.1 ours.0
-            | inr theirs ↦ absurd (true≢false (sym (only q found.1) ∙ theirs.1))
-          ])
+      let found = filter_contains p _ q c in
+      elim (stepped_cases q found.0) [
+        | inl ours ↦ contains_filter p current.names q found.1 ours.0
+        | inr theirs ↦ absurd (true≢false (sym (only q found.1) ∙ theirs.1))
+      ])
       (λ q c. let found = filter_contains p current.names q c in contains_filter p _ q found.1 (stepped_has q found.0 (only q found.1)))
 
   pub filter_of_others : is_name_set logged.names ≡ true → (p : FlatName → Bool) → ((q : FlatName) → p q ≡ true → is_in members q.ino ≡ false) → filter p (stepped current logged target members).names ≡ filter p logged.names
   filter_of_others set p only =
       same_name_set _ _ (is_name_set_filter p _ stepped_in_order) (is_name_set_filter p logged.names set)
       (λ q c.
-          let found = filter_contains p _ q c in
-          elim (stepped_cases q found.0) [
-            | inl ours ↦ absurd (true≢false (sym ours.1 ∙ only q found.1))
-            | inr theirs ↦ contains_filter p logged.names q found.1 theirs.0
-          ])
+      let found = filter_contains p _ q c in
+      elim (stepped_cases q found.0) [
+        | inl ours ↦ absurd (true≢false (sym ours.1 ∙ only q found.1))
+        | inr theirs ↦ contains_filter p logged.names q found.1 theirs.0
+      ])
       (λ q c. let found = filter_contains p logged.names q c in contains_filter p _ q found.1 (stepped_keeps q found.0 (only q found.1)))
 
   -- ---- records

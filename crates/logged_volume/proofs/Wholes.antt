@@ -1,5 +1,5 @@
 -- A whole inode of the log restores the record that was logged.
-use Rattle.std.proofs.Common.{◌≡◌, ℕ, ◌+◌, ◌-◌, ◌*◌, ◌/◌, ◌<◌, ◌≤◌, Bool, true, false, cond, ◌||◌, ◌&&◌, List, [], ◌∷◌, ◌++◌, Option, Some, None, refl, sym, ap, subst, ◌∙◌, arith, inl, inr, ◌⊎◌}
+use Rattle.std.proofs.Common.{◌≡◌, ℕ, ◌+◌, ◌-◌, ◌*◌, ◌<◌, ◌≤◌, true, false, cond, ◌||◌, ◌&&◌, List, ◌++◌, Option, Some, None, refl, sym, ap, subst, ◌∙◌, arith}
 use Rattle.std.specs.Bool.{nat_le, nat_lt}
 use Rattle.std.specs.Option.{is_some}
 use Rattle.std.specs.Ordering.{nat_cmp}
@@ -11,7 +11,7 @@ use Rattle.std.proofs.lemmas.List.Elements.{Contains-append_left, Contains-appen
 use Rattle.flat_model.specs.Records.{Blocks, FileRecord, InodeRecord, FileInode, DirInode, LinkInode, kind_of, at_creation}
 use Rattle.flat_model.specs.Contents.{block_bytes}
 use Rattle.flat_model.specs.Coherent.{KeepsLimits, KeepsFileLimits, KeepsBlockLimits}
-use Rattle.flat_model.proofs.Maps.{some_same, some_none}
+use Rattle.flat_model.proofs.Maps.{some_none}
 use Rattle.logged_volume.specs.Numbers.{gaps_with}
 use Rattle.logged_volume.specs.FlatLog.{FileChanges, WholeInode, WholeFile, WholeDir, WholeLink}
 use Rattle.logged_volume.specs.Replay.{blocks_of, is_in_hole, replayed_block, replayed_inode}
@@ -33,8 +33,8 @@ module _ (old : Blocks) (file : FileRecord) (changes : FileChanges) (is : IsChan
   hole_has : (number : ℕ) (bytes : List ℕ) → get file.blocks number ≡ None → get old number ≡ Some bytes → number * block_bytes < file.size → is_in_hole changes.holes number ≡ true
   hole_has number bytes none there below =
       let found = gaps_with_has (keys file.blocks) (keys old) (blocks_in file.size) number (omega arith)
-        (λ c. let has = key_has file.blocks number c in some_none has.0 (sym has.1 ∙ none))
-        (key_is_in old number bytes there) in
+      (λ c. let has = key_has file.blocks number c in some_none has.0 (sym has.1 ∙ none))
+      (key_is_in old number bytes there) in
       let from = found.2 in
       let to = found.3 in
       subst (λ holes. is_in_hole holes number ≡ true) (sym is.holes)
@@ -131,12 +131,13 @@ whole_kind was (LinkInode link) (WholeLink whole) is = refl
 -- and it keeps its limits
 pub whole_limits : (was : Option InodeRecord) (inode : InodeRecord) (whole : WholeInode) → IsWholeOf was inode whole → KeepsLimits inode → KeepsWholeLimits whole
 whole_limits was (FileInode file) (WholeFile changes) is keeps =
-    let limits = keeps.kind in
-    (subst Rattle.flat_model.specs.Coherent.KeepAttributeLimits (sym is.attributes) keeps.attributes,
+    let limits = keeps.kind in (
+      subst Rattle.flat_model.specs.Coherent.KeepAttributeLimits (sym is.attributes) keeps.attributes,
       record {
         size = subst (λ s. s ≤ Rattle.flat_model.specs.Contents.most_file_bytes) (sym is.size) limits.size;
         blocks = λ number bytes e. subst (λ s. KeepsBlockLimits s number bytes) (sym is.size) (limits.blocks number bytes (is.brought number bytes e));
-      })
+      },
+    )
 whole_limits was (FileInode file) (WholeDir dir) is keeps = absurd is
 whole_limits was (FileInode file) (WholeLink link) is keeps = absurd is
 whole_limits was (DirInode dir) (WholeFile changes) is keeps = absurd is

@@ -1,5 +1,5 @@
 -- What an fsync writes into a log says what the step leaves of R.
-use Rattle.std.proofs.Common.{◌≡◌, ℕ, ◌+◌, ◌-◌, ◌^◌, ◌<◌, ◌≤◌, Bool, true, false, cond, not, ◌&&◌, ◌||◌, List, [], ◌∷◌, ◌++◌, map, Option, Some, None, refl, sym, ap, subst, ◌∙◌, arith, inl, inr, ◌⊎◌}
+use Rattle.std.proofs.Common.{◌≡◌, ℕ, ◌-◌, ◌^◌, Bool, true, false, cond, not, ◌&&◌, ◌||◌, List, [], ◌++◌, map, Option, Some, None, refl, sym, ap, subst, ◌∙◌, arith, inl, inr, ◌⊎◌}
 use Rattle.std.specs.Bool.{nat_eq}
 use Rattle.std.specs.Option.{is_some, unwrap_or, option_map}
 use Rattle.std.specs.List.{Contains, filter}
@@ -7,25 +7,24 @@ use Rattle.std.specs.FinMap.{get}
 use Rattle.std.proofs.lemmas.Bool.{true≢false, or_cases, or_left, or_right, or_parts, or_from, and_parts, and_from, and_left, eqb-true, eq-eqb, ne_eqb, not-true, not_from_false, cases_eq, cases_Bool, false_from_ne_true, true_from_ne_false}
 use Rattle.std.proofs.lemmas.List.Elements.{Contains-append_left, Contains-append_right, Contains-append_cases}
 use Rattle.flat_model.specs.Records.{InodeRecord, at_creation}
-use Rattle.flat_model.specs.Names.{FlatName, name_set, is_name_set, stands_in}
-use Rattle.flat_model.specs.Coherent.{IsCoherent, IsIndexNumber}
+use Rattle.flat_model.specs.Names.{FlatName, is_name_set, stands_in}
 use Rattle.flat_model.specs.Volume.{Subvolume, is_dir_at}
 use Rattle.flat_model.proofs.Lists.{contains_filter, filter_contains}
 use Rattle.flat_model.proofs.Maps.{some_same, some_none}
 use Rattle.flat_model.proofs.Ways.{bytes_eq_same}
 use Rattle.logged_volume.specs.Numbers.{is_in, gaps_with}
-use Rattle.logged_volume.specs.Agreement.{Agree, KeepsCommon, AreMadeAlike, AreStep, is_there, is_same_unmarked, has_unmarked, do_names_differ}
-use Rattle.logged_volume.specs.Drawn.{is_parent, is_first, IsClosed}
-use Rattle.logged_volume.specs.LogStep.{member_record, stepped_record, stepped}
+use Rattle.logged_volume.specs.Agreement.{is_there, is_same_unmarked, has_unmarked, do_names_differ}
+use Rattle.logged_volume.specs.Drawn.{is_parent, IsClosed}
+use Rattle.logged_volume.specs.LogStep.{member_record, stepped}
 use Rattle.logged_volume.specs.FlatLog.{WholeInode, LogRange, LogEntry, FlatLog, is_logged, is_covered, is_dropped, entry_of}
-use Rattle.logged_volume.specs.Written.{unchanged_indexes, all_indexes, ranges_of, entries_in, is_gone, is_listed, listed_ranges, written_ranges, written_entries, written_existing, HasTarget, IsFsyncWritten, IsWholeOf}
+use Rattle.logged_volume.specs.Written.{unchanged_indexes, all_indexes, ranges_of, entries_in, is_gone, is_listed, listed_ranges, IsFsyncWritten, IsWholeOf}
 use Rattle.logged_volume.specs.Standing.{StandsWhole, StandsExisting, IsLogOf, AreLogStep}
 use Rattle.logged_volume.proofs.Members.{any_from, name_set_has, name_set_gives, is_set_name_set}
 use Rattle.logged_volume.proofs.LeastSets.{parent_from}
 use Rattle.logged_volume.proofs.Gaps.{map_has, map_gives, gaps_with_lacks}
 use Rattle.logged_volume.proofs.Wholes.{creation_twice}
-use Rattle.logged_volume.proofs.Covers.{Covers, covered_gives, covered_from, dropped_gives, dropped_from}
-use Rattle.logged_volume.proofs.Stepped.{there_gives, there_from, absent_gives, same_names_here, same_names_there, stepped_cases, stepped_has, stepped_keeps, stepped_inode, other_inode, MemberIs, member_there, member_gives}
+use Rattle.logged_volume.proofs.Covers.{Covers, covered_gives, dropped_gives, dropped_from}
+use Rattle.logged_volume.proofs.Stepped.{there_gives, there_from, absent_gives, same_names_here, same_names_there, stepped_cases, stepped_has, stepped_keeps, stepped_inode, other_inode, member_there}
 use Rattle.logged_volume.proofs.StepCoherence.{StrandsNone, stepped_coherent}
 
 some_given : {A : Type 0} (o : Option A) → is_some o ≡ true → (x : A) × (o ≡ Some x)
@@ -317,10 +316,10 @@ module _ (committed current logged : Subvolume) (target : ℕ) (members : List �
   listed_name : (name : FlatName) → is_dir_at current target ≡ true → name.dir ≡ target → Contains current.names name ⊎ Contains logged.names name → is_in members name.ino ≡ false → do_names_differ current logged name.ino ≡ false
   listed_name name is_dir in_target either m =
       false_from_ne_true _ (λ differ. true≢false (sym (closed.first name.ino (or_right (nat_eq name.ino target) _
-        (and_from _ _ is_dir (and_from _ _ differ (elim either [
-          | inl here ↦ or_left _ _ (parent_from current.names name name.ino target here refl in_target)
-          | inr there ↦ or_right (is_parent current.names name.ino target) _ (parent_from logged.names name name.ino target there refl in_target)
-        ]))))) ∙ m))
+      (and_from _ _ is_dir (and_from _ _ differ (elim either [
+        | inl here ↦ or_left _ _ (parent_from current.names name name.ino target here refl in_target)
+        | inr there ↦ or_right (is_parent current.names name.ino target) _ (parent_from logged.names name name.ino target there refl in_target)
+      ]))))) ∙ m))
 
   entry_ino_kept : (ino : ℕ) → is_there logged ino ≡ true → is_gone current members ino ≡ false → is_there (stepped current logged target members) ino ≡ true
   entry_ino_kept ino there stays =

@@ -1,5 +1,5 @@
 -- Which flat logs a mount accepts over a committed subvolume.
-use Rattle.std.specs.Prelude.{◌≡◌, ◌≢◌, ℕ, ◌≤◌, List, Option, Some, None, Contains, IsTrue, option_map}
+use Rattle.std.specs.Prelude.{◌≡◌, ◌≢◌, ℕ, ◌≤◌, List, Some, None, Contains, IsTrue}
 use Rattle.std.specs.FinMap.{get}
 use Rattle.flat_model.specs.declared.view.Kind.{Kind}
 use Rattle.flat_model.specs.declared.view.Kind.TheVariants.{File, Dir, Link}

@@ -1,7 +1,6 @@
 -- Which inodes an fsync draws into the log with its target, so that what replay leaves is coherent.
 use Rattle.std.specs.Prelude.{◌≡◌, ℕ, ◌+◌, Bool, true, false, cond, not, ◌&&◌, ◌||◌, List, [], ◌∷◌, ◌++◌, Option, Some, None, filter, flat_map, Contains, IsTrue, nat_eq, nat_lt, bytes_eq}
 use Rattle.std.specs.List.{list_any}
-use Rattle.std.specs.FinMap.{get}
 use Rattle.blk_base.specs.Crc.{name_hash_of}
 use Rattle.flat_model.specs.Names.{FlatName, leads_to, stands_in, is_in_slot}
 use Rattle.flat_model.specs.Lengths.{most_item_bytes, dir_item_length}

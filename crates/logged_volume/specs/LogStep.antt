@@ -10,9 +10,9 @@ use Rattle.logged_volume.specs.Drawn.{drawn_set, is_data_form}
 -- a member's record after the step: none where F lacks it, F's of the target; else R's, and the record at creation where R lacks it (own)
 abbrev pub member_record : Subvolume → Subvolume → ℕ → ℕ → Option InodeRecord
 member_record current logged target ino = elim (get current.inodes ino) [
-    | None ↦ None
-    | Some inode ↦ Some (cond (nat_eq ino target) inode (unwrap_or (get logged.inodes ino) (at_creation inode)))
-  ]
+  | None ↦ None
+  | Some inode ↦ Some (cond (nat_eq ino target) inode (unwrap_or (get logged.inodes ino) (at_creation inode)))
+]
 
 -- an inode's record after the step: R's of those that are no members (own)
 abbrev pub stepped_record : Subvolume → Subvolume → ℕ → List ℕ → ℕ → Option InodeRecord
@@ -33,9 +33,9 @@ stepped current logged target members = record {
 -- R with F's record of the target (own)
 unfoldable pub with_data : Subvolume → Subvolume → ℕ → Subvolume
 with_data current logged target = elim (get current.inodes target) [
-    | None ↦ logged
-    | Some inode ↦ record logged { inodes = insert logged.inodes target inode }
-  ]
+  | None ↦ logged
+  | Some inode ↦ record logged { inodes = insert logged.inodes target inode }
+]
 
 -- R after a log step: an fsync's takes the names of the drawn set from F, the data form F's record of the target alone
 -- (after the kernel's btrfs_log_inode_parent; LOG_INODE_ALL and LOG_INODE_EXISTS, own)

@@ -23,9 +23,9 @@ is_in_hole holes number = list_any (λ hole. nat_le hole.0 number && nat_lt numb
 -- a block after replay: the log's where it has it; none where a hole covers it or it lies wholly past the size; else C's ("EXTENT_DATA")
 abbrev pub replayed_block : Blocks → FileChanges → ℕ → Option (List ℕ)
 replayed_block old changes number = elim (get changes.blocks number) [
-    | None ↦ cond (is_in_hole changes.holes number || nat_le changes.size (number * block_bytes)) None (get old number)
-    | Some bytes ↦ Some bytes
-  ]
+  | None ↦ cond (is_in_hole changes.holes number || nat_le changes.size (number * block_bytes)) None (get old number)
+  | Some bytes ↦ Some bytes
+]
 
 -- the record of a whole inode after replay, from C's where C has one (after the kernel's overwrite_item and replay_one_extent)
 unfoldable pub replayed_inode : Option InodeRecord → WholeInode → InodeRecord
@@ -40,9 +40,9 @@ replayed_inode was (WholeLink link) = LinkInode link
 -- an inode's record after replay: that of a whole inode is the log's; else it is C's, and where C lacks it the existing one's
 abbrev pub replayed_record : Subvolume → FlatLog → ℕ → Option InodeRecord
 replayed_record sub log ino = elim (get log.whole ino) [
-    | None ↦ elim (get sub.inodes ino) [ None ↦ get log.existing ino | Some inode ↦ Some inode ]
-    | Some whole ↦ Some (replayed_inode (get sub.inodes ino) whole)
-  ]
+  | None ↦ elim (get sub.inodes ino) [ None ↦ get log.existing ino | Some inode ↦ Some inode ]
+  | Some whole ↦ Some (replayed_inode (get sub.inodes ino) whole)
+]
 
 -- first, each name that lies in a range and has no equal entry goes (after the kernel's replay_dir_deletes)
 abbrev pub drop_ranged : FlatLog → Subvolume → Subvolume

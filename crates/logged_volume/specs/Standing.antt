@@ -1,5 +1,5 @@
 -- When a flat log says what R is over a committed subvolume.
-use Rattle.std.specs.Prelude.{◌≡◌, ℕ, List, Option, Some, None, Contains, IsTrue, IsFalse, unwrap_or}
+use Rattle.std.specs.Prelude.{◌≡◌, ℕ, Some, None, Contains, IsTrue, IsFalse, unwrap_or}
 use Rattle.std.specs.FinMap.{get}
 use Rattle.flat_model.specs.Records.{InodeRecord, at_creation}
 use Rattle.flat_model.specs.Names.{FlatName, is_name_set}

@@ -10,7 +10,7 @@ returns-clause-names c committed log name = (
   (λ either. subst (λ ns. Contains ns name) (sym (replay_names committed log)) (elim either [
     | inl ours ↦ left_has committed log name ours
     | inr theirs ↦ left_keeps committed log name theirs.0 theirs.1 theirs.2
-  ]))
+  ])),
 )
 
 pub returns-clause-apart : goal.returns-clause-apart
