@@ -51,7 +51,7 @@ empty_is_log committed coherent = record {
 -- ---- the data form
 
 module _ (committed current logged : Subvolume) (target : ℕ) (log after : FlatLog) (are : AreLogStep committed current logged target log) (there : is_there logged target ≡ true) (written : IsDataWritten committed current target log after) where
-  data_names : (with_data current logged target).names ≡ logged.names
+  pub data_names : (with_data current logged target).names ≡ logged.names
   unfolding with_data
   data_names = elim (get current.inodes target) as (λ o. (elim o as (λ _. Subvolume) [ None ↦ logged | Some inode ↦ record logged { inodes = insert logged.inodes target inode } ]).names ≡ logged.names) [ None ↦ refl | Some inode ↦ refl ]
 
@@ -68,10 +68,10 @@ module _ (committed current logged : Subvolume) (target : ℕ) (log after : Flat
     | Some inode ↦ get_insert_other logged.inodes target inode ino apart
   ]
 
-  data_there : (ino : ℕ) → is_there (with_data current logged target) ino ≡ is_there logged ino
+  pub data_there : (ino : ℕ) → is_there (with_data current logged target) ino ≡ is_there logged ino
   data_there ino = elim (cases_eq ino target) [
     | inl same ↦
-        let now = there_gives current target are.step.has_target in
+        let now = there_gives current target are.volumes.step.has_target in
         ap (is_there (with_data current logged target)) same ∙ ap is_some (data_target now.0 now.1) ∙ sym there ∙ ap (is_there logged) (sym same)
     | inr apart ↦ ap is_some (data_other ino apart)
   ]
@@ -82,10 +82,10 @@ module _ (committed current logged : Subvolume) (target : ℕ) (log after : Flat
   existing_target : (ino : ℕ) → ino ≡ target → get after.existing ino ≡ None
   existing_target ino same = written.existing ino ∙ ap (λ b. cond b None (get log.existing ino)) (eq-eqb ino target same)
 
-  logged_apart : (ino : ℕ) → (ino ≡ target → ⊥) → is_logged after ino ≡ is_logged log ino
+  pub logged_apart : (ino : ℕ) → (ino ≡ target → ⊥) → is_logged after ino ≡ is_logged log ino
   logged_apart ino apart = let wholes = written.whole ino apart in let existings = existing_apart ino apart in λ i. is_some (wholes i) || is_some (existings i)
 
-  logged_target : (ino : ℕ) → ino ≡ target → is_logged after ino ≡ true
+  pub logged_target : (ino : ℕ) → ino ≡ target → is_logged after ino ≡ true
   logged_target ino same = or_left _ _ (ap is_some (ap (get after.whole) same ∙ written.has_target.logged))
 
   -- an inode that the log doesn't have after the step isn't the target
@@ -123,10 +123,10 @@ module _ (committed current logged : Subvolume) (target : ℕ) (log after : Flat
   ]
 
   -- the names of the log after the step, where it had the target before and where not
-  names_if_had : is_logged log target ≡ true → after.names ≡ log.names
+  pub names_if_had : is_logged log target ≡ true → after.names ≡ log.names
   names_if_had t = written.names ∙ ap (λ b. cond b log.names (name_set (log.names ++ filter (λ name. leads_to target name && not (is_dropped log name)) committed.names))) t
 
-  names_if_new : is_logged log target ≡ false → after.names ≡ name_set (log.names ++ filter (λ name. leads_to target name && not (is_dropped log name)) committed.names)
+  pub names_if_new : is_logged log target ≡ false → after.names ≡ name_set (log.names ++ filter (λ name. leads_to target name && not (is_dropped log name)) committed.names)
   names_if_new f = written.names ∙ ap (λ b. cond b log.names (name_set (log.names ++ filter (λ name. leads_to target name && not (is_dropped log name)) committed.names))) f
 
   data_in_order : is_name_set after.names ≡ true

@@ -13,3 +13,7 @@ pub mod Covers
 pub mod WrittenLogs
 pub mod DataLogs
 pub mod LogSteps
+pub mod Counts
+pub mod WeightBounds
+pub mod WeightSteps
+pub mod Intervals

@@ -26,7 +26,7 @@ step_writes_log committed current logged target datasync room log after are none
       | true ↦ λ t w. data_writes_log committed current logged target log after are (and_parts _ _ t).1 w
       | false ↦ λ f w.
           fsync_writes_log committed current logged target (drawn_set current logged target) log after are
-          (least_set_closed current logged target true) (strands_none current logged target datasync room are.step none f) w
+          (least_set_closed current logged target true) (strands_none current logged target datasync room are.volumes.step none f) w
     ] refl written
 
 -- ---- which inodes come

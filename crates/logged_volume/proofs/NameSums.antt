@@ -13,7 +13,7 @@ use Rattle.flat_model.proofs.Ways.{split_around}
 abbrev pub bytes_cost : List ℕ → ℕ
 bytes_cost bytes = 30 + length bytes
 
-around : {X : Type 0} (front : List X) (x : X) (back : List X) (y : X) → Contains (front ++ x ∷ back) y → (x ≡ y) ⊎ Contains (front ++ back) y
+pub around : {X : Type 0} (front : List X) (x : X) (back : List X) (y : X) → Contains (front ++ x ∷ back) y → (x ≡ y) ⊎ Contains (front ++ back) y
 around front x back y c =
     elim (Contains-append_cases front (x ∷ back) y c) [
       | inl before ↦ inr (Contains-append_left front back y before)

@@ -36,21 +36,21 @@ none_given None f = refl
 none_given (Some x) f = absurd (true≢false f)
 
 module _ (committed current logged : Subvolume) (target : ℕ) (members : List ℕ) (log after : FlatLog) (are : AreLogStep committed current logged target log) (closed : IsClosed current logged target true (is_in members)) (strands : StrandsNone current logged members) (written : IsFsyncWritten committed current logged target members (stepped current logged target members) log after) where
-  target_is_member : is_in members target ≡ true
+  pub target_is_member : is_in members target ≡ true
   target_is_member = closed.first target (or_left _ _ (eq-eqb target target refl))
 
   -- ---- which inodes the log has
 
-  gone_is : (ino : ℕ) → is_in members ino ≡ true → is_there current ino ≡ false → is_gone current members ino ≡ true
+  pub gone_is : (ino : ℕ) → is_in members ino ≡ true → is_there current ino ≡ false → is_gone current members ino ≡ true
   gone_is ino m absent = and_from _ _ m (not_from_false _ absent)
 
   not_gone_member : (ino : ℕ) → is_there current ino ≡ true → is_gone current members ino ≡ false
   not_gone_member ino there = Rattle.std.proofs.lemmas.Bool.and_right (is_in members ino) _ (ap not there)
 
-  not_gone_other : (ino : ℕ) → is_in members ino ≡ false → is_gone current members ino ≡ false
+  pub not_gone_other : (ino : ℕ) → is_in members ino ≡ false → is_gone current members ino ≡ false
   not_gone_other ino m = and_left _ _ m
 
-  whole_kept : (ino : ℕ) → (ino ≡ target → ⊥) → is_gone current members ino ≡ false → get after.whole ino ≡ get log.whole ino
+  pub whole_kept : (ino : ℕ) → (ino ≡ target → ⊥) → is_gone current members ino ≡ false → get after.whole ino ≡ get log.whole ino
   whole_kept ino apart f = written.whole ino apart ∙ ap (λ b. cond b None (get log.whole ino)) f
 
   existing_other : (ino : ℕ) → is_in members ino ≡ false → get after.existing ino ≡ get log.existing ino
@@ -74,16 +74,16 @@ module _ (committed current logged : Subvolume) (target : ℕ) (members : List �
             ∙ are.is_log.one_item ino whole at
       ] refl
 
-  logged_other : (ino : ℕ) → is_in members ino ≡ false → is_logged after ino ≡ is_logged log ino
+  pub logged_other : (ino : ℕ) → is_in members ino ≡ false → is_logged after ino ≡ is_logged log ino
   logged_other ino m =
       let apart : ino ≡ target → ⊥ = λ same. true≢false (sym target_is_member ∙ ap (is_in members) (sym same) ∙ m) in
       let wholes = whole_kept ino apart (not_gone_other ino m) in
       let existings = existing_other ino m in
       λ i. is_some (wholes i) || is_some (existings i)
 
-  logged_gone : (ino : ℕ) → is_in members ino ≡ true → is_there current ino ≡ false → is_logged after ino ≡ false
+  pub logged_gone : (ino : ℕ) → is_in members ino ≡ true → is_there current ino ≡ false → is_logged after ino ≡ false
   logged_gone ino m absent =
-      let apart : ino ≡ target → ⊥ = λ same. true≢false (sym are.step.has_target ∙ ap (is_there current) (sym same) ∙ absent) in
+      let apart : ino ≡ target → ⊥ = λ same. true≢false (sym are.volumes.step.has_target ∙ ap (is_there current) (sym same) ∙ absent) in
       or_from _ _
       (ap is_some (written.whole ino apart ∙ ap (λ b. cond b None (get log.whole ino)) (gone_is ino m absent)))
       (elim (get log.whole ino) as (λ o. get log.whole ino ≡ o → is_some (get after.existing ino) ≡ false) [
@@ -91,7 +91,7 @@ module _ (committed current logged : Subvolume) (target : ℕ) (members : List �
         | Some whole ↦ λ at. ap is_some (existing_whole ino whole at)
       ] refl)
 
-  logged_member : (ino : ℕ) → is_in members ino ≡ true → is_there current ino ≡ true → is_logged after ino ≡ true
+  pub logged_member : (ino : ℕ) → is_in members ino ≡ true → is_there current ino ≡ true → is_logged after ino ≡ true
   logged_member ino m there =
       elim (cases_eq ino target) [
         | inl same ↦ or_left _ _ (ap is_some (ap (get after.whole) same ∙ written.has_target.logged))
@@ -122,7 +122,7 @@ module _ (committed current logged : Subvolume) (target : ℕ) (members : List �
       ∙ ap (λ o. elim o [ None ↦ None | Some now ↦ Some (cond (nat_eq ino target) now (unwrap_or (get logged.inodes ino) (at_creation now))) ]) found
       ∙ ap (λ b. Some (cond b now (unwrap_or (get logged.inodes ino) (at_creation now)))) (ne_eqb ino target apart)
 
-  gone_record : (ino : ℕ) → is_in members ino ≡ true → is_there current ino ≡ false → is_there (stepped current logged target members) ino ≡ false
+  pub gone_record : (ino : ℕ) → is_in members ino ≡ true → is_there current ino ≡ false → is_there (stepped current logged target members) ino ≡ false
   gone_record ino m absent =
       ap is_some (stepped_inode current logged target members ino
       ∙ ap (λ b. cond b (member_record current logged target ino) (get logged.inodes ino)) m
@@ -141,7 +141,7 @@ module _ (committed current logged : Subvolume) (target : ℕ) (members : List �
         ] refl
       ] refl
 
-  present_is_there : (ino : ℕ) → is_in members ino ≡ true → is_there current ino ≡ true → is_there (stepped current logged target members) ino ≡ true
+  pub present_is_there : (ino : ℕ) → is_in members ino ≡ true → is_there current ino ≡ true → is_there (stepped current logged target members) ino ≡ true
   present_is_there ino m there =
       let now = there_gives current ino there in
       let is = member_there current logged target members ino now.0 m now.1 in
@@ -152,11 +152,11 @@ module _ (committed current logged : Subvolume) (target : ℕ) (members : List �
   unlogged_member ino m f = false_from_ne_true _ (λ there. true≢false (sym (logged_member ino m there) ∙ f))
 
   name_here : (name : FlatName) → Contains current.names name → is_there current name.ino ≡ true
-  name_here name c = let found = are.step.current_coherent.leads_to_inode name c in there_from current name.ino found.0 found.1
+  name_here name c = let found = are.volumes.step.current_coherent.leads_to_inode name c in there_from current name.ino found.0 found.1
 
-  name_next : (name : FlatName) → Contains (stepped current logged target members).names name → is_there (stepped current logged target members) name.ino ≡ true
+  pub name_next : (name : FlatName) → Contains (stepped current logged target members).names name → is_there (stepped current logged target members) name.ino ≡ true
   name_next name c =
-      let found = (stepped_coherent current logged target members are.step closed strands).leads_to_inode name c in
+      let found = (stepped_coherent current logged target members are.volumes.step closed strands).leads_to_inode name c in
       there_from (stepped current logged target members) name.ino found.0 found.1
 
   -- ---- inodes of the log
@@ -203,7 +203,7 @@ module _ (committed current logged : Subvolume) (target : ℕ) (members : List �
       elim (get logged.inodes ino) as (λ o. get logged.inodes ino ≡ o → StandsExisting committed (stepped current logged target members) ino (at_creation now)) [
         | None ↦ λ absent.
             let lacks : get committed.inodes ino ≡ None =
-            none_given (get committed.inodes ino) (false_from_ne_true _ (λ was. true≢false (sym (are.common.inodes ino was (there_from current ino now found)) ∙ ap is_some absent))) in
+            none_given (get committed.inodes ino) (false_from_ne_true _ (λ was. true≢false (sym (are.volumes.common.inodes ino was (there_from current ino now found)) ∙ ap is_some absent))) in
             record {
               inode = at_creation now;
               there = member_record_is ino now apart m found ∙ ap (λ o. Some (unwrap_or o (at_creation now))) absent;
@@ -211,7 +211,7 @@ module _ (committed current logged : Subvolume) (target : ℕ) (members : List �
               record_is = sym (ap (λ o. unwrap_or o (at_creation now)) lacks);
             }
         | Some old ↦ λ there.
-            let alike = are.made_alike ino now old found there in
+            let alike = are.volumes.made_alike ino now old found there in
             record {
               inode = old;
               there = member_record_is ino now apart m found ∙ ap (λ o. Some (unwrap_or o (at_creation now))) there;
@@ -258,14 +258,14 @@ module _ (committed current logged : Subvolume) (target : ℕ) (members : List �
 
   -- ---- names of the log
 
-  after_cases : (name : FlatName) → Contains after.names name → (Contains current.names name × (is_in members name.ino ≡ true)) ⊎ (Contains log.names name × (is_in members name.ino ≡ false))
+  pub after_cases : (name : FlatName) → Contains after.names name → (Contains current.names name × (is_in members name.ino ≡ true)) ⊎ (Contains log.names name × (is_in members name.ino ≡ false))
   after_cases name c =
       elim (Contains-append_cases (filter (λ name. is_in members name.ino) current.names) (filter (λ name. not (is_in members name.ino)) log.names) name (name_set_gives _ name (subst (λ ns. Contains ns name) written.names c))) [
         | inl ours ↦ inl (filter_contains (λ name. is_in members name.ino) current.names name ours)
         | inr theirs ↦ let found = filter_contains (λ (name : FlatName). not (is_in members name.ino)) log.names name theirs in inr (found.0, not-true _ found.1)
       ]
 
-  after_has : (name : FlatName) → (Contains current.names name × (is_in members name.ino ≡ true)) ⊎ (Contains log.names name × (is_in members name.ino ≡ false)) → Contains after.names name
+  pub after_has : (name : FlatName) → (Contains current.names name × (is_in members name.ino ≡ true)) ⊎ (Contains log.names name × (is_in members name.ino ≡ false)) → Contains after.names name
   after_has name either =
       subst (λ ns. Contains ns name) (sym written.names) (name_set_has (filter (λ name. is_in members name.ino) current.names ++ filter (λ name. not (is_in members name.ino)) log.names) name (elim either [
         | inl ours ↦ Contains-append_left _ (filter (λ name. not (is_in members name.ino)) log.names) name (contains_filter (λ (name : FlatName). is_in members name.ino) current.names name ours.1 ours.0)
@@ -289,7 +289,7 @@ module _ (committed current logged : Subvolume) (target : ℕ) (members : List �
   -- ---- other inodes and their names
 
   -- an inode that the log doesn't have and R has after the step is no member
-  other_is_none : (ino : ℕ) → is_logged after ino ≡ false → is_there (stepped current logged target members) ino ≡ true → is_in members ino ≡ false
+  pub other_is_none : (ino : ℕ) → is_logged after ino ≡ false → is_there (stepped current logged target members) ino ≡ true → is_in members ino ≡ false
   other_is_none ino f there = false_from_ne_true _ (λ m. true≢false (sym there ∙ gone_record ino m (unlogged_member ino m f)))
 
   after_other_inodes : (ino : ℕ) → is_logged after ino ≡ false → is_there (stepped current logged target members) ino ≡ true → get (stepped current logged target members).inodes ino ≡ get committed.inodes ino
@@ -321,7 +321,7 @@ module _ (committed current logged : Subvolume) (target : ℕ) (members : List �
         | inr there ↦ or_right (is_parent current.names name.ino target) _ (parent_from logged.names name name.ino target there refl in_target)
       ]))))) ∙ m))
 
-  entry_ino_kept : (ino : ℕ) → is_there logged ino ≡ true → is_gone current members ino ≡ false → is_there (stepped current logged target members) ino ≡ true
+  pub entry_ino_kept : (ino : ℕ) → is_there logged ino ≡ true → is_gone current members ino ≡ false → is_there (stepped current logged target members) ino ≡ true
   entry_ino_kept ino there stays =
       elim (is_in members ino) as (λ b. is_in members ino ≡ b → is_there (stepped current logged target members) ino ≡ true) [
         | false ↦ λ m. ap is_some (other_inode current logged target members ino m) ∙ there
@@ -333,11 +333,11 @@ module _ (committed current logged : Subvolume) (target : ℕ) (members : List �
       elim (is_in members name.ino) as (λ b. is_in members name.ino ≡ b → is_there (stepped current logged target members) name.ino ≡ true) [
         | true ↦ λ m. present_is_there name.ino m (name_here name c)
         | false ↦ λ m.
-            let there = same_names_here current logged are.step.agree name (listed_name name is_dir in_target (inl c) m) c in
+            let there = same_names_here current logged are.volumes.step.agree name (listed_name name is_dir in_target (inl c) m) c in
             name_next name (stepped_keeps current logged target members name there m)
       ] refl
 
-  entries_cases : (entry : LogEntry) → Contains after.entries entry → (Contains log.entries entry × (is_gone current members entry.ino ≡ false)) ⊎ ((is_dir_at current target ≡ true) × Contains (entries_in current target (ranges_of committed current target)) entry)
+  pub entries_cases : (entry : LogEntry) → Contains after.entries entry → (Contains log.entries entry × (is_gone current members entry.ino ≡ false)) ⊎ ((is_dir_at current target ≡ true) × Contains (entries_in current target (ranges_of committed current target)) entry)
   entries_cases entry c =
       elim (Contains-append_cases (filter (λ (entry : LogEntry). not (is_gone current members entry.dir) && (not (is_gone current members entry.ino) && not (is_listed current target entry.dir))) log.entries) (cond (is_dir_at current target) (entries_in current target (ranges_of committed current target)) []) entry ((written.entries entry).0 c)) [
         | inl old ↦
@@ -366,7 +366,7 @@ module _ (committed current logged : Subvolume) (target : ℕ) (members : List �
       (and_from _ _ (not_from_false _ dir_stays) (and_from _ _ (not_from_false _ ino_stays) (not_from_false _ unlisted))) c))
 
   -- a name of C in a range of the target isn't in F
-  ranged_is_lost : (name : FlatName) (range : LogRange) → Contains (ranges_of committed current target) range → Covers range name.dir name.index → Contains committed.names name → Contains current.names name → ⊥
+  pub ranged_is_lost : (name : FlatName) (range : LogRange) → Contains (ranges_of committed current target) range → Covers range name.dir name.index → Contains committed.names name → Contains current.names name → ⊥
   ranged_is_lost name range c covers was now =
       let found = map_gives (λ (gap : ℕ × ℕ). let made : LogRange = record { dir = target; first = gap.0; last = gap.1 - 1 } in made) (gaps_with (unchanged_indexes committed current target) (all_indexes committed current target) (2 ^ 64)) range c in
       let gap : ℕ × ℕ = found.0 in
@@ -375,7 +375,7 @@ module _ (committed current logged : Subvolume) (target : ℕ) (members : List �
       let last_is : gap.1 - 1 ≡ range.last = ap (λ (r : LogRange). r.last) found.2 in
       let from = covers.from in
       let to = covers.to in
-      let index = are.committed_coherent.index_numbers name was in
+      let index = are.volumes.committed_coherent.index_numbers name was in
       let at_least = index.0 in
       let in_target : name.dir ≡ target = sym covers.dir_is ∙ sym dir_is in
       let same : has_unmarked current.names name ≡ true =
@@ -386,7 +386,7 @@ module _ (committed current logged : Subvolume) (target : ℕ) (members : List �
       (contains_filter (λ name. stands_in target name && has_unmarked current.names name) committed.names name (and_from _ _ (eq-eqb name.dir target in_target) same) was) in
       gaps_with_lacks (unchanged_indexes committed current target) (all_indexes committed current target) (2 ^ 64) name.index gap found.1 (omega arith) (omega arith) unchanged
 
-  ranges_cases : (range : LogRange) → Contains (listed_ranges committed current target members log) range → (Contains log.ranges range × (is_gone current members range.dir ≡ false) × (is_listed current target range.dir ≡ false)) ⊎ ((is_dir_at current target ≡ true) × Contains (ranges_of committed current target) range)
+  pub ranges_cases : (range : LogRange) → Contains (listed_ranges committed current target members log) range → (Contains log.ranges range × (is_gone current members range.dir ≡ false) × (is_listed current target range.dir ≡ false)) ⊎ ((is_dir_at current target ≡ true) × Contains (ranges_of committed current target) range)
   ranges_cases range c =
       elim (Contains-append_cases (filter (λ (range : LogRange). not (is_gone current members range.dir) && not (is_listed current target range.dir)) log.ranges) (cond (is_dir_at current target) (ranges_of committed current target) []) range c) [
         | inl old ↦
@@ -408,7 +408,7 @@ module _ (committed current logged : Subvolume) (target : ℕ) (members : List �
       λ e. no_entry (entry_kept name (ap (is_gone current members) (sym covers.dir_is) ∙ dir_stays) ino_stays (ap (is_listed current target) (sym covers.dir_is) ∙ unlisted) e) in
       let lost = are.is_log.drops_lost name was (dropped_from log name range c covers none) in
       elim (stepped_cases current logged target members name here) [
-        | inl ours ↦ lost (are.common.names name was ours.0)
+        | inl ours ↦ lost (are.volumes.common.names name was ours.0)
         | inr theirs ↦ lost theirs.0
       ]
 
@@ -420,16 +420,16 @@ module _ (committed current logged : Subvolume) (target : ℕ) (members : List �
       let in_target : name.dir ≡ target = sym covers.dir_is ∙ sym (ap (λ (r : LogRange). r.dir) found.2) in
       elim (stepped_cases current logged target members name here) [
         | inl ours ↦ lost ours.0
-        | inr theirs ↦ lost (same_names_there current logged are.step.agree name (listed_name name is_dir in_target (inr theirs.0) theirs.1) theirs.0)
+        | inr theirs ↦ lost (same_names_there current logged are.volumes.step.agree name (listed_name name is_dir in_target (inr theirs.0) theirs.1) theirs.0)
       ]
 
-  single : FlatName → LogRange
+  pub single : FlatName → LogRange
   single name = record { dir = name.dir; first = name.index; last = name.index }
 
-  is_single : FlatName → Bool
+  pub is_single : FlatName → Bool
   is_single name = not (is_there (stepped current logged target members) name.ino) && not (is_covered (listed_ranges committed current target members log) name.dir name.index)
 
-  written_cases : (range : LogRange) → Contains after.ranges range → Contains (listed_ranges committed current target members log) range ⊎ ((name : FlatName) × Contains committed.names name × (is_there (stepped current logged target members) name.ino ≡ false) × (single name ≡ range))
+  pub written_cases : (range : LogRange) → Contains after.ranges range → Contains (listed_ranges committed current target members log) range ⊎ ((name : FlatName) × Contains committed.names name × (is_there (stepped current logged target members) name.ino ≡ false) × (single name ≡ range))
   unfolding single is_single
   written_cases range c =
       elim (Contains-append_cases (listed_ranges committed current target members log) (map single (filter is_single committed.names)) range ((written.ranges range).0 c)) [
@@ -459,7 +459,7 @@ module _ (committed current logged : Subvolume) (target : ℕ) (members : List �
             let from = covers.from in
             let to = covers.to in
             let index_is : lost.index ≡ name.index = omega arith in
-            let same = are.committed_coherent.no_index_twice lost name one.1 was dir_is index_is in
+            let same = are.volumes.committed_coherent.no_index_twice lost name one.1 was dir_is index_is in
             true≢false (sym (name_next name here) ∙ ap (λ (n : FlatName). is_there (stepped current logged target members) n.ino) (sym same) ∙ one.2)
       ]
 

@@ -118,6 +118,10 @@ abbrev pub is_stranding : Subvolume → Subvolume → List ℕ → ℕ → Bool
 is_stranding current logged members ino =
     not (is_there current ino) && (is_dir_at logged ino && list_any (λ name. stands_in ino name && not (is_in members name.ino)) logged.names)
 
+-- a directory is stranded: a member that is gone and has in R a name of an inode that is no member (own)
+abbrev pub IsStranded : Subvolume → Subvolume → List ℕ → ℕ → Type 0
+IsStranded current logged members ino = IsTrue (is_in members ino) × IsTrue (is_stranding current logged members ino)
+
 -- the first number, where there is one
 abbrev pub first_of : List ℕ → Option ℕ
 first_of [] = None

@@ -1,6 +1,6 @@
 -- What the log tree of a subvolume says, apart from any block: whole inodes, existing inodes, the names of both, and
 -- ranges of directories with the entries that they keep.
-use Rattle.std.specs.Prelude.{ℕ, Bool, not, ◌&&◌, ◌||◌, List, [], is_some, nat_eq, nat_le, bytes_eq}
+use Rattle.std.specs.Prelude.{ℕ, Bool, not, ◌&&◌, ◌||◌, List, [], is_some, nat_eq, nat_le, bytes_eq, ◌∷◌, Contains, ⊤}
 use Rattle.std.specs.Ordering.{nat_cmp}
 use Rattle.std.specs.List.{list_any}
 use Rattle.std.specs.FinMap.{FinMap, empty, get}
@@ -34,6 +34,11 @@ pub record LogEntry : Type 0 where
   pub index : ℕ
   pub bytes : List ℕ
   pub ino : ℕ
+
+-- no element of the list comes twice
+abbrev pub AreDistinct : {X : Type 0} → List X → Type 0
+AreDistinct [] = ⊤
+AreDistinct (x ∷ xs) = (Contains xs x → ⊥) × AreDistinct xs
 
 -- a flat log: whole inodes; inodes that it only says exist, each with its record at creation ("INODE_ITEM" with
 -- generation 0, LOG_INODE_EXISTS); the names of both; ranges, and the entries in them

@@ -8,3 +8,4 @@ pub mod Replay
 pub mod Accepted
 pub mod Written
 pub mod Standing
+pub mod Weight

@@ -1,5 +1,5 @@
 -- Finite sets of numbers, maps made from functions, and what is reached step by step.
-use Rattle.std.specs.Prelude.{ℕ, zero, suc, ◌+◌, Bool, true, cond, ◌&&◌, ◌||◌, List, [], ◌∷◌, length, filter, Option, Some, None, nat_eq, nat_lt, nat_le}
+use Rattle.std.specs.Prelude.{◌≡◌, ℕ, ◌<◌, ◌≤◌, ◌⊎◌, Contains, zero, suc, ◌+◌, Bool, true, cond, ◌&&◌, ◌||◌, List, [], ◌∷◌, length, filter, Option, Some, None, nat_eq, nat_lt, nat_le}
 use Rattle.std.specs.Ordering.{nat_cmp}
 use Rattle.std.specs.List.{list_any, list_all}
 use Rattle.std.specs.FinMap.{FinMap, empty, insert}
@@ -54,3 +54,11 @@ is_met numbers interval = list_any (λ number. nat_le interval.0 number && nat_l
 -- each maximal interval of the numbers below `high` that has none of the first numbers and at least one of the others
 abbrev pub gaps_with : List ℕ → List ℕ → ℕ → List (ℕ × ℕ)
 gaps_with without others high = filter (is_met others) (gaps 0 (number_set without) high)
+
+-- an interval is such a maximal one: it lacks the first numbers and has one of the others; it begins at 0 or behind one of
+-- the first, and ends at `high` or before one of them
+pub record IsMaximal (without others : List ℕ) (high : ℕ) (interval : ℕ × ℕ) : Type 0 where
+  pub lacks : (number : ℕ) → interval.0 ≤ number → number < interval.1 → Contains without number → ⊥
+  pub meets : (number : ℕ) × Contains others number × (interval.0 ≤ number) × (number < interval.1)
+  pub begins : (interval.0 ≡ 0) ⊎ ((number : ℕ) × Contains without number × (number + 1 ≡ interval.0))
+  pub ends : (interval.1 ≡ high) ⊎ Contains without interval.1

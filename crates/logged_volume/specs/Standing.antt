@@ -41,13 +41,17 @@ pub record IsLogOf (committed logged : Subvolume) (log : FlatLog) : Type 0 where
   pub drops_gone : (name : FlatName) → Contains committed.names name → IsFalse (is_there logged name.ino) → IsTrue (is_dropped log name)
   pub entries_lead : (entry : LogEntry) → Contains log.entries entry → IsTrue (is_there logged entry.ino)
 
--- what holds where a log step writes a log: what holds of its volumes; C is coherent and agrees with both; a name or inode
--- that C and F have R has too, and inodes were made alike; the log says what R is (own)
-pub record AreLogStep (committed current logged : Subvolume) (target : ℕ) (log : FlatLog) : Type 0 where
+-- what holds of the three volumes where a log step writes a log: what holds of F and R; C is coherent and agrees with both; a
+-- name or inode that C and F have R has too, and inodes of F and R were made alike (own)
+pub record AreLogVolumes (committed current logged : Subvolume) (target : ℕ) : Type 0 where
   pub step : AreStep current logged target
   pub committed_coherent : IsCoherent committed
   pub with_current : Agree committed current
   pub with_logged : Agree committed logged
   pub common : KeepsCommon committed current logged
   pub made_alike : AreMadeAlike current logged
+
+-- and the log says what R is (own)
+pub record AreLogStep (committed current logged : Subvolume) (target : ℕ) (log : FlatLog) : Type 0 where
+  pub volumes : AreLogVolumes committed current logged target
   pub is_log : IsLogOf committed logged log

@@ -9,7 +9,7 @@ use Rattle.logged_volume.specs.Numbers.{is_in, gaps_with}
 use Rattle.logged_volume.specs.Agreement.{is_there, has_unmarked}
 use Rattle.logged_volume.specs.Drawn.{drawn_set, is_data_form}
 use Rattle.logged_volume.specs.LogStep.{log_step}
-use Rattle.logged_volume.specs.FlatLog.{FileChanges, WholeInode, WholeFile, WholeDir, WholeLink, LogRange, LogEntry, FlatLog, is_logged, is_covered, is_dropped, entry_of}
+use Rattle.logged_volume.specs.FlatLog.{FileChanges, WholeInode, WholeFile, WholeDir, WholeLink, LogRange, LogEntry, FlatLog, is_logged, is_covered, is_dropped, entry_of, AreDistinct}
 use Rattle.logged_volume.specs.Replay.{blocks_of}
 
 -- how many blocks a size takes ("EXTENT_DATA")
@@ -105,6 +105,8 @@ pub record IsFsyncWritten (committed current logged : Subvolume) (target : ℕ) 
   pub names : after.names ≡ name_set (filter (λ name. is_in members name.ino) current.names ++ filter (λ name. not (is_in members name.ino)) log.names)
   pub ranges : (range : LogRange) → Contains after.ranges range ↔ Contains (written_ranges committed current next target members log) range
   pub entries : (entry : LogEntry) → Contains after.entries entry ↔ Contains (written_entries committed current target members log) entry
+  pub ranges_once : AreDistinct after.ranges
+  pub entries_once : AreDistinct after.entries
 
 -- what the data form writes: the target is whole; its names are the log's, or where the log lacks the inode those of C
 -- that no range drops; all else stays (own)
@@ -115,6 +117,8 @@ pub record IsDataWritten (committed current : Subvolume) (target : ℕ) (log aft
   pub names : after.names ≡ cond (is_logged log target) log.names (name_set (log.names ++ filter (λ name. leads_to target name && not (is_dropped log name)) committed.names))
   pub ranges : (range : LogRange) → Contains after.ranges range ↔ Contains log.ranges range
   pub entries : (entry : LogEntry) → Contains after.entries entry ↔ Contains log.entries entry
+  pub ranges_once : AreDistinct after.ranges
+  pub entries_once : AreDistinct after.entries
 
 -- what a log step writes into the log of a subvolume, in both forms
 abbrev pub IsWritten : Subvolume → Subvolume → Subvolume → ℕ → Bool → FlatLog → FlatLog → Type 0
