@@ -5,7 +5,7 @@ use Rattle.std.proofs.lemmas.List.Elements.{All-more}
 use Rattle.std.specs.declared.boxed.Box.{Box}
 use Rattle.blk_base.specs.declared.key.Addr.{Addr}
 use Rattle.disk_model.specs.Disk.{Image, IfBoth, IfTold, Changes, SameBut}
-use Rattle.disk_model.specs.Laws.{slice_get-set_other, slice_get-set_same}
+use Rattle.disk_model.proofs.CrashLaws.{slice_get-set_other, slice_get-set_same}
 use Rattle.batch_write.specs.Batch.{AtBlock, HasBlock, HasWritten, NoSuper, SameOutside, blocks_of, numbers_of}
 
 -- two numbers are the same or not

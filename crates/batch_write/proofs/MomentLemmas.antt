@@ -1,13 +1,13 @@
 -- What a crash may leave while a batch and its superblock are written.
 use Rattle.std.proofs.Common.{◌≡◌, ◌≢◌, ◌<◌, ◌+◌, ◌/◌, ◌∷◌, [], ℕ, List, length, All, Contains, Option, Some, None, Bool, true, false, slice_get, slice_set, slice_index_or, refl, sym, ◌∙◌, ap, subst, inl, inr, arith, length-append}
 use Rattle.std.proofs.Math.Seq.{take-length}
-use Rattle.std.proofs.lemmas.List.{get_or-set_other, get_or-set_same, length-set}
+use Rattle.std.proofs.lemmas.List.{get_or_default, get_or-set_other, get_or-set_same, length-set}
 use Rattle.std.proofs.lemmas.List.Elements.{All-set}
 use Rattle.std.proofs.lemmas.Option.{slice_get-get_or}
 use Rattle.blk_base.specs.Bytes.{IsBlock}
 use Rattle.disk_model.specs.Disk.{Image, IsImage, Call, Held, Told, Moment, Leaves, EveryMoment, IfBoth, IfTold, Continues, after_call, during_call, after_calls, held_first, held_now, image_now, written, super_written}
-use Rattle.disk_model.specs.Laws.{held_now-goes_on, EveryMoment-one_call, EveryMoment-joins, EveryMoment-weaker, EveryMoment-same, leaves_after_flush, Leaves-after, slice_get-set_other, slice_get-set_same, Contains-cons_cases, Contains-single, Contains-none}
-use Rattle.batch_write.specs.Batch.{AtBlock, HasBatch, HasBlock, IsOldBut, IsOldOrNew, IsTried, LeavesOnly, NoSuper, numbers_of}
+use Rattle.disk_model.proofs.CrashLaws.{held_now-goes_on, EveryMoment-one_call, EveryMoment-joins, EveryMoment-weaker, EveryMoment-same, leaves_after_flush, Leaves-after, settled-writing, slice_get-set_other, slice_get-set_same, Contains-cons_cases, Contains-single, Contains-none}
+use Rattle.batch_write.specs.Batch.{AtBlock, HasBatch, HasBlock, IsOldBut, IsOldOrNew, IsTried, LeavesOnly, NoSuper, Regained, numbers_of}
 use Rattle.batch_write.proofs.ImageLemmas.{IsNext, number_among, same_or_other}
 
 -- what holds at every moment holds at the last one
@@ -41,7 +41,7 @@ so_far_goes_on P (Some old) (Some now) (Some new) ok call so_far goes during = m
 
 -- while a block is written, or once its write is over, any bytes may stand in it
 abbrev torn : Held → ℕ → Held
-torn held at = record { image = held.image; pending = at ∷ held.pending; supers = held.supers }
+torn held at = record { image = held.image; pending = at ∷ held.pending; lost = held.lost; supers = held.supers }
 
 -- what a crash may leave then, with that block put back to what a read gave, it might leave before
 put_back : (held : Held) (at : ℕ) (image : Image) → IsImage held.image → at < length held.image → at ≢ 16 → Leaves (torn held at) image → Leaves held (slice_set image at (slice_index_or held.image at []))
@@ -52,7 +52,7 @@ put_back held at image blocks within other leaves = record {
   others = λ k not_super settled. elim (same_or_other k at) [
     | inl same ↦ subst (λ n. slice_get (slice_set image at was) n ≡ slice_get held.image n) (sym same) (slice_get-set_same image at was (omega (arith, within, leaves.size)) ∙ sym (slice_get-get_or held.image at [] within))
     | inr apart ↦ slice_get-set_other image at k was apart ∙ leaves.others k not_super
-        (λ among. elim (Contains-cons_cases at held.pending k among) [ inl same ↦ apart (sym same) | inr pending ↦ settled pending ])
+        (settled-writing held at was true was k (λ same. apart (sym same)) settled)
   ];
 }
   where
@@ -132,25 +132,28 @@ so_far_flushes numbers before now new ok so_far goes =
 abbrev pub IsSettled : List AtBlock → Option Told → Type 0
 IsSettled batch told = IfTold told (λ now. LeavesOnly now (λ image. All (HasBlock image) batch))
 
-flush_settles_batch : (batch : List AtBlock) (now new : Option Told) (seen : Option Image) → NoSuper batch → IfTold new (λ record_. seen ≡ Some (image_now record_)) → IfTold seen (λ image. All (HasBlock image) batch)
-    → Continues now new true (Call.Flush true) → IsSettled batch new
-flush_settles_batch batch None None seen none as_told there goes = tt
-flush_settles_batch batch None (Some new) seen none as_told there goes = absurd goes
-flush_settles_batch batch (Some now) None seen none as_told there goes = tt
-flush_settles_batch batch (Some now) (Some new) seen none as_told there goes = λ image leaves k d within.
+flush_settles_batch : (batch : List AtBlock) (now new : Option Told) (seen : Option Image) (before lost : List ℕ) → NoSuper batch → IfTold new (λ record_. seen ≡ Some (image_now record_)) → IfTold new (λ record_. lost ≡ (held_now record_).lost) → IfTold seen (λ image. All (HasBlock image) batch)
+    → Regained (numbers_of batch) before lost → Continues now new true (Call.Flush true) → IsSettled batch new
+flush_settles_batch batch None None seen before lost none as_told lost_told there regained goes = tt
+flush_settles_batch batch None (Some new) seen before lost none as_told lost_told there regained goes = absurd goes
+flush_settles_batch batch (Some now) None seen before lost none as_told lost_told there regained goes = tt
+flush_settles_batch batch (Some now) (Some new) seen before lost none as_told lost_told there regained goes = λ image leaves k d within.
     let read : All (HasBlock (image_now new)) batch = subst (λ (image : Option Image). IfTold image (λ blocks. All (HasBlock blocks) batch)) as_told there in
-    leaves_after_flush now new image goes leaves ((slice_index_or batch k d).0.0 / 4096) (none k d within) ∙ read k d within
+    let at : ℕ = (slice_index_or batch k d).0.0 / 4096 in
+    let among : Contains (numbers_of batch) at = number_among batch k (slice_index_or batch k d) (record { within = within; is = get_or_default batch k (slice_index_or batch k d) d within }) in
+    leaves_after_flush now new image goes leaves at (none k d within)
+    (λ is. regained.none at among (subst (λ (blocks : List ℕ). Contains blocks at) (sym lost_told) is)) ∙ read k d within
 
-pub batch_settles : (batch : List AtBlock) (now new : Option Told) (seen : Option Image) (ok : Bool) → NoSuper batch → IfTold new (λ record_. seen ≡ Some (image_now record_)) → IfTold seen (λ image. All (HasBlock image) batch)
-    → Continues now new ok (Call.Flush ok) → true ≡ ok → IsSettled batch new
-batch_settles batch now new seen true none as_told there goes is = flush_settles_batch batch now new seen none as_told there goes
-batch_settles batch now new seen false none as_told there goes is = absurd (cc)
+pub batch_settles : (batch : List AtBlock) (now new : Option Told) (seen : Option Image) (before lost : List ℕ) (ok : Bool) → NoSuper batch → IfTold new (λ record_. seen ≡ Some (image_now record_)) → IfTold new (λ record_. lost ≡ (held_now record_).lost) → IfTold seen (λ image. All (HasBlock image) batch)
+    → Regained (numbers_of batch) before lost → Continues now new ok (Call.Flush ok) → true ≡ ok → IsSettled batch new
+batch_settles batch now new seen before lost true none as_told lost_told there regained goes is = flush_settles_batch batch now new seen before lost none as_told lost_told there regained goes
+batch_settles batch now new seen before lost false none as_told lost_told there regained goes is = absurd (cc)
 
 -- ---- the superblock
 
 -- while a superblock is written, or once its write has failed
 abbrev found_too : Held → List ℕ → Held
-found_too held superblock = record { image = held.image; pending = held.pending; supers = superblock ∷ held.supers }
+found_too held superblock = record { image = held.image; pending = held.pending; lost = held.lost; supers = superblock ∷ held.supers }
 
 -- an image with the new superblock, put back to what a read gives of the old one, is one from before
 with_new_super : (told : Told) (superblock : List ℕ) (image : Image) → IsImage (image_now told) → 16 < length (image_now told) → Leaves (held_now told) (image_now told) → Leaves (found_too (held_now told) superblock) image

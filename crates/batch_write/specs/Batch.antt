@@ -1,12 +1,9 @@
 -- A batch of blocks and a superblock, and what a crash may leave while they are written.
-use Rattle.std.specs.Prelude.{◌≡◌, ◌≢◌, ◌/◌, ◌%◌, ◌<◌, ◌⊎◌, ℕ, List, length, map, All, Contains, Some, slice_get}
+use Rattle.std.specs.Prelude.{◌≡◌, ◌≢◌, ◌/◌, ◌%◌, ◌<◌, ◌⊎◌, ◌++◌, ◌∷◌, [], ℕ, List, length, map, All, Contains, Some, true, slice_get}
 use Rattle.std.specs.declared.boxed.Box.{Box}
 use Rattle.blk_base.specs.declared.key.Addr.{Addr}
-use Rattle.disk_model.specs.Disk.{Image, IsImage, Told, Leaves, held_now}
-
--- a block, and the byte address where it is to stand (own)
-abbrev pub AtBlock : Type 0
-AtBlock = Addr × List ℕ
+pub use Rattle.blk_base.specs.Trees.{AtBlock}
+use Rattle.disk_model.specs.Disk.{Image, IsImage, Call, Told, Leaves, held_now}
 
 -- the blocks of a batch by their bytes
 abbrev pub blocks_of : {A : Type 0} → List (Addr × Box (List ℕ) A) → List AtBlock
@@ -36,6 +33,23 @@ pub record HasWritten (batch : List AtBlock) (old new : Image) : Type 0 where
   pub size : length new ≡ length old
   pub written : All (HasBlock new) batch
   pub others : (at : ℕ) → at ≢ 16 → (Contains (numbers_of batch) at → ⊥) → slice_get new at ≡ slice_get old at
+
+-- Fewer blocks are lost than before, and none with one of these numbers.
+pub record Regained (numbers : List ℕ) (old new : List ℕ) : Type 0 where
+  pub fewer : (at : ℕ) → Contains new at → Contains old at
+  pub none : (at : ℕ) → Contains numbers at → Contains new at → ⊥
+
+-- the write of a block, which answered Ok
+abbrev pub write_call : AtBlock → Call
+write_call item = Call.Write (item.0.0 / 4096) item.1 true item.1
+
+-- the calls that make the blocks durable: a write of each, in order, and a flush
+abbrev pub settle_calls : List AtBlock → List Call
+settle_calls batch = map write_call batch ++ Call.Flush true ∷ []
+
+-- the superblock's write, which answered Ok
+abbrev pub super_call : List ℕ → Call
+super_call superblock = Call.Super superblock true superblock
 
 -- The image is one that a crash could leave at first, but for the blocks with these numbers.
 pub record IsOldBut (old : Told) (numbers : List ℕ) (image : Image) : Type 0 where

@@ -1,5 +1,5 @@
 ghost use Rattle.std.specs.Prelude.{◌≡◌, ◌≢◌, ◌<◌, [], OnOk, Err, is_ok, false};
-ghost use Rattle.disk_model.specs.Disk.{Changes, EveryMoment, HasCause, IfBoth};
+ghost use Rattle.disk_model.specs.Disk.{Changes, Continues, EveryMoment, HasCause, IfBoth, super_written};
 ghost use Rattle.batch_write.specs.Batch.{HasBatch, IsOldOrNew, LeavesOnly};
 
 use blk_base::Block;
@@ -11,6 +11,8 @@ pub fn write_super_again<D: Disk>(disk: &mut D, superblock: &Block) -> Result<()
     requires { 16 < D.count disk.old }
     ensures size { D.count disk.new ≡ D.count disk.old }
     ensures seen { Changes (D.seen disk.old) (D.seen disk.new) 16 superblock.now (is_ok result) }
+    ensures lost { D.lost disk.new ≡ D.lost disk.old }
+    ensures told { Continues (D.told disk.old) (D.told disk.new) (is_ok result) (super_written superblock.now (is_ok result) (D.seen disk.new)) }
     ensures crash { IfBoth (D.told disk.old) (D.told disk.new) (λ old new. EveryMoment old new (IsOldOrNew old [] superblock.now)) }
     ensures done { OnOk result (IfBoth (D.told disk.old) (D.told disk.new) (λ old new. LeavesOnly new (HasBatch old [] superblock.now))) }
     ensures fault { result ≢ Err (DeviceFault.Disk false) }

@@ -39,17 +39,21 @@ impl ListDisk {
 }
 
 impl Disk for ListDisk {
-    ghost use Rattle.std.specs.Prelude.{None};
+    ghost use Rattle.std.specs.Prelude.{[], None};
 
     ghost count = { λ _. 4096 };
 
     ghost seen = { λ _. None };
+
+    ghost lost = { λ _. [] };
 
     ghost told = { λ _. None };
 
     ghost faults = { λ disk. disk.faults };
 
     ghost reads_as_told = { λ _. tt };
+
+    ghost lost_as_told = { λ _. tt };
 
     ghost reads_blocks = { λ _. tt };
 

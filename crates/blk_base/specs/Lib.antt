@@ -9,3 +9,6 @@ pub mod Superblock
 pub mod Items
 pub mod Entries
 pub mod Extents
+pub mod Trees
+pub mod Causes
+pub mod ItemFaults

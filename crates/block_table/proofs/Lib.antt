@@ -1,1 +1,4 @@
+pub mod Counts
+pub mod Free
 pub mod Kept
+pub mod Laws

@@ -2,10 +2,7 @@
 use Rattle.std.specs.Prelude.{◌++◌, ◌∷◌, ℕ, List, [], map}
 use Rattle.std.specs.declared.boxed.Box.{Box}
 use Rattle.blk_base.specs.declared.key.Addr.{Addr}
-
--- a block, and the byte address where it is to stand (own)
-abbrev pub AtBlock : Type 0
-AtBlock = Addr × List ℕ
+use Rattle.blk_base.specs.Trees.{AtBlock}
 
 -- the blocks in order, and how many the list has room for (own)
 pub record BlockList : Type 0 where

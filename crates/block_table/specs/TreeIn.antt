@@ -1,13 +1,12 @@
--- Trees whose blocks stand in a table of blocks, and what an edit of one may change.
-use Rattle.std.specs.Prelude.{◌≡◌, ◌≢◌, ◌≤◌, ℕ, zero, suc, Bool, true, false, List, [], ◌∷◌, ◌++◌, length, All, Option, Some, None, Contains, if◌then◌else◌}
-use Rattle.blk_base.specs.declared.key.Key.{Key}
+-- Trees whose blocks stand in a table of blocks.
+use Rattle.std.specs.Prelude.{◌≡◌, ◌≢◌, ◌≤◌, ℕ, zero, suc, Bool, true, false, List, [], ◌∷◌, length, All, Some}
 use Rattle.blk_base.specs.declared.key.Want.{Want}
 use Rattle.blk_base.specs.Address.{IsAllowed}
-use Rattle.blk_base.specs.Keys.{KeyBelow}
+use Rattle.blk_base.specs.Trees.{AreChildren, ItemsRise, NoneTwice, child_want, first_key, least_items, least_pointers}
 use Rattle.blk_base.specs.Leaf.{Item, Pointer, HeaderFits, IsLeafBody, IsNodeBody}
-use Rattle.block_table.specs.declared.state.SlotState.TheVariants.{Free, Dirty, LetGo}
+use Rattle.block_table.specs.declared.state.SlotState.TheVariants.{Free, Dirty}
 use Rattle.block_table.specs.declared.tree.Tree.{Tree}
-use Rattle.block_table.specs.Slot.{BlockSlot, free_slot}
+use Rattle.block_table.specs.Slot.{BlockSlot}
 use Rattle.block_table.specs.Table.{Table, slot_at}
 
 -- the block at a byte address
@@ -15,35 +14,6 @@ abbrev pub block_at : Table → ℕ → BlockSlot
 block_at table at = slot_at table (record { 0 = at })
 
 -- ---- the tree, by the bodies of its blocks alone
-
--- no address stands twice (own)
-abbrev pub NoneTwice : List ℕ → Type 0
-NoneTwice [] = Unit {0}
-NoneTwice (at ∷ others) = (Contains others at → ⊥) × NoneTwice others
-
-abbrev pub first_key : List Item → Option Key
-first_key [] = None
-first_key (item ∷ items) = Some item.0
-
--- each key is below the next ("Leaf Node")
-abbrev pub ItemsRise : List Item → Type 0
-ItemsRise [] = Unit {0}
-ItemsRise (item ∷ []) = Unit {0}
-ItemsRise (item ∷ next ∷ items) = KeyBelow item.0 next.0 × ItemsRise (next ∷ items)
-
--- the least items of a leaf and the least pointers of a node, where it is the root and where it isn't (own)
-abbrev pub least_items : Bool → ℕ
-least_items is_root = if is_root then 0 else 1
-
-abbrev pub least_pointers : Bool → ℕ
-least_pointers is_root = if is_root then 2 else 30
-
--- the children's items, one list behind the other, and all that they reach ("Internal Node")
-abbrev pub AreChildren : (Pointer → List Item → List ℕ → Type 0) → List Pointer → List Item → List ℕ → Type 0
-AreChildren child [] items reach = (items ≡ []) × (reach ≡ [])
-AreChildren child (pointer ∷ pointers) items reach =
-    (part : List Item) × (rest : List Item) × (near : List ℕ) × (far : List ℕ)
-    × child pointer part near × AreChildren child pointers rest far × (items ≡ part ++ rest) × (reach ≡ near ++ far)
 
 -- a block that isn't Free, at an address that a volume may use (own)
 pub record IsTaken (table : Table) (at : ℕ) : Type 0 where
@@ -68,17 +38,7 @@ pub record IsTreeIn (table : Table) (tree : Tree) (items : List Item) (reach : L
   pub order : ItemsRise items
   pub once : NoneTwice reach
 
--- it is a current tree: no block of it was let go (own)
-pub record IsCurrentTree (table : Table) (tree : Tree) (items : List Item) (reach : List ℕ) : Type 0 where
-  pub tree_in : IsTreeIn table tree items reach
-  pub current : All (λ at. (block_at table at).state ≢ LetGo) reach
-
 -- ---- the headers of its blocks
-
--- a child is read with its pointer's address and generation, the same owner, and one level less ("Internal Node")
-abbrev pub child_want : Want → Pointer → ℕ → Want
-child_want want pointer level =
-    record want { at = record { 0 = pointer.at }; generation = pointer.generation; level = level }
 
 -- a block passes its header's checks, unless it is Dirty ("Header")
 abbrev pub IsSealedBlock : Table → Want → Type 0
@@ -96,21 +56,3 @@ IsSealedSubtree (suc level) table want =
 abbrev pub IsSealedTree : Table → Tree → List ℕ → ℕ → Type 0
 IsSealedTree table tree fsid generation =
     IsSealedSubtree tree.level table (record { fsid = fsid; at = tree.root; generation = generation; owner = tree.owner; level = tree.level })
-
--- ---- what an edit of a tree may change
-
--- what becomes of a block that the tree has no more: a Dirty one is Free, and another one is LetGo (own)
-pub record IsLeft (old new : BlockSlot) : Type 0 where
-  pub dirty : old.state ≡ Dirty → new ≡ free_slot
-  pub written : old.state ≢ Dirty → new ≡ record old { state = LetGo; stood = None }
-
--- An edit of a tree that reached `before` and then reaches `after`: its new blocks were Free and are Dirty, its old ones are
--- left, those in both keep all but the bytes of a Dirty one, and every other block stays as it was (own).
-pub record IsEdit (old new : Table) (before after : List ℕ) : Type 0 where
-  pub size : length new.slots ≡ length old.slots
-  pub lists : new.lists ≡ old.lists
-  pub fresh : (at : ℕ) → Contains after at → (Contains before at → ⊥) → ((block_at old at).state ≡ Free) × ((block_at new at).state ≡ Dirty)
-  pub left : (at : ℕ) → Contains before at → (Contains after at → ⊥) → IsLeft (block_at old at) (block_at new at)
-  pub kept : (at : ℕ) → Contains before at → Contains after at → block_at new at ≡ record (block_at old at) { bytes = (block_at new at).bytes }
-  pub kept_bytes : (at : ℕ) → Contains before at → Contains after at → (block_at old at).state ≢ Dirty → (block_at new at).bytes ≡ (block_at old at).bytes
-  pub others : (at : ℕ) → (Contains before at → ⊥) → (Contains after at → ⊥) → block_at new at ≡ block_at old at

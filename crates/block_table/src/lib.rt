@@ -4,7 +4,7 @@
 //! the other one, which goes out in a list and comes back with it. So only `new`, `reserve` and `Parts::new` take memory.
 //!
 //! Contracts see a table as the list of its blocks by their numbers (`specs/Table.antt`), with what each is used for and
-//! its bytes. `specs/TreeIn.antt` says which tree stands in a table, and what an edit of it may change.
+//! its bytes. `specs/TreeIn.antt` says which tree stands in a table.
 #![tactic(auto)]
 
 mod batch;

@@ -1,5 +1,6 @@
 ghost use Rattle.std.specs.Prelude.{◌≡◌, ◌≢◌, false, true, Some, None};
 ghost use Rattle.std.specs.Borrow.{sem};
+ghost use Rattle.blk_base.specs.Bytes.{zeros};
 ghost use Rattle.block_table.specs.Slot.{free_slot, dirty_slot, is_whole};
 ghost use Rattle.block_table.specs.SlotLends.{LendsBytes};
 ghost use Rattle.block_table.specs.declared.state.SlotState.{SlotState};
@@ -26,6 +27,7 @@ pub(crate) struct Slot {
 
 impl Model for Slot {
     ghost use Rattle.std.specs.Prelude.{◌&&◌, not, is_some, []};
+    ghost use Rattle.blk_base.specs.Bytes.{zeros};
     ghost use Rattle.block_table.specs.Slot.{BlockSlot, IsSlot, bytes_of};
 
     ghost Value = { BlockSlot };
@@ -56,6 +58,14 @@ impl Slot {
             kept: Some(buffer.kept),
             other: Some(buffer.other),
         }
+    }
+
+    /// Dirty, with zeros.
+    pub fn empty(mut buffer: Buffer) -> Slot
+        ensures { result ≡ dirty_slot (zeros 4096) }
+    {
+        *buffer.kept = [0; 4096];
+        Slot::dirty(buffer)
     }
 
     pub fn stand(mut buffer: Buffer, from: &Block, is_data: bool) -> Slot

@@ -1,19 +1,23 @@
-ghost use Rattle.std.specs.Prelude.{◌≡◌, ◌≢◌, ◌≤◌, ◌<◌, ◌+◌, ◌==◌, ◌&&◌, nat_le, not, max, length, false, true, Some, None, [], IfOk, IfSome, OnOk, OnErr, IsNone, MatchOption, slice_index_or, slice_set, ℕ, vec_len, vec_capacity, replicate, ◌^◌, All};
+ghost use Rattle.std.specs.Prelude.{◌≡◌, ◌≢◌, ◌≤◌, ◌<◌, ◌+◌, ◌*◌, ◌/◌, ◌==◌, ◌&&◌, nat_le, not, max, length, false, true, Some, None, [], IfOk, IfSome, OnOk, OnErr, IsNone, MatchOption, slice_index_or, slice_set, ℕ, vec_len, vec_capacity, replicate, ◌^◌, All};
 ghost use Rattle.block_table.specs.Slot.{free_slot};
-ghost use Rattle.block_table.specs.Table.{IsInStock, all_back, brought_back, free_from, free_one, is_free_block};
+ghost use Rattle.block_table.specs.Table.{IsFirstFree, IsInStock, KnowsFree, NoneFree, all_back, brought_back, free_from, free_one, is_free_block};
 
 use crate::blocks::Blocks;
 use crate::slot::{Buffer, Slot};
 use crate::state::SlotState;
+use blk_base::format::{COPY_BLOCK, FIRST_BLOCK};
 use blk_base::{Addr, Block, OutOfMemory};
 use std::alloc::Global;
+
+/// So many blocks are marked together, where one of them may be Free (own).
+pub(crate) const GROUP: usize = 256;
 
 /// Whether a volume may use the block with this number: it isn't in front of the first superblock's end, nor the second
 /// superblock's.
 pub(crate) fn is_usable(number: usize) -> bool
-    ensures { result ≡ (nat_le 17 number && not (number == 16384)) }
+    ensures { result ≡ (nat_le FIRST_BLOCK number && not (number == COPY_BLOCK)) }
 {
-    number >= 17 && number != 16384
+    number >= FIRST_BLOCK as usize && number != COPY_BLOCK as usize
 }
 
 /// One where a volume may use the block with this number, for a count of those that are Free.
@@ -24,35 +28,47 @@ pub(crate) fn count_usable(number: usize) -> u32
 }
 
 /// The first block from `from` on and below `to` that is Free and that a volume may use.
-fn free_between(slots: &[Slot], from: u32, to: u32) -> Option<u32>
+fn free_between(slots: &[Slot], from: usize, to: usize) -> Option<usize>
     requires { to ≤ length slots.now }
-    ensures found { IfSome result (λ number. (number < to) × (is_free_block number (slice_index_or slots.now number free_slot) ≡ true)) }
-    ensures none { IsNone result → (number : ℕ) → from ≤ number → number < to → is_free_block number (slice_index_or slots.now number free_slot) ≡ false }
+    ensures found { IfSome result (IsFirstFree slots.now from) }
+    ensures none { IsNone result → NoneFree slots.now from to }
 {
-    for number in from..to {
-        let place = number as usize;
+    for place in from..to {
         if is_usable(place) && slots[place].state() == SlotState::Free {
-            return Some(number);
+            return Some(place);
         }
     }
     None
 }
 
-/// A block that is Free and that a volume may use, looked for from `next` on and then from the front.
-pub(crate) fn find_free(slots: &[Slot], next: u32) -> u32
+/// The first block of a group that is Free and that a volume may use.
+fn free_in(slots: &[Slot], group: usize) -> Option<usize>
     requires small { length slots.now < 2 ^ 32 }
-    requires next { next ≤ length slots.now }
-    requires some { 1 ≤ free_from 0 slots.now }
-    ensures inside { result < length slots.now }
-    ensures free { is_free_block result (slice_index_or slots.now result free_slot) ≡ true }
+    requires group { group ≤ length slots.now / 256 }
+    ensures found { IfSome result (IsFirstFree slots.now (256 * group)) }
+    ensures none { IsNone result → NoneFree slots.now (256 * group) (256 * group + 256) }
 {
-    match free_between(slots, next, slots.len() as u32) {
-        Some(number) => number,
-        None => match free_between(slots, 0, next) {
-            Some(number) => number,
-            None => unreachable!(),
-        },
+    let from = GROUP * group;
+    free_between(slots, from, slots.len().min(from + GROUP))
+}
+
+/// The first block that is Free and that a volume may use. A group without one is marked no more.
+pub(crate) fn find_free(slots: &[Slot], low: usize, groups: &mut Vec<bool>) -> usize
+    requires small { length slots.now < 2 ^ 32 }
+    requires knows { KnowsFree slots.now low groups.old.items }
+    requires some { 1 ≤ free_from 0 slots.now }
+    ensures first { IsFirstFree slots.now 0 result }
+    ensures knows { KnowsFree slots.now result groups.new.items }
+{
+    for group in low / GROUP..groups.len() {
+        if groups[group] {
+            if let Some(number) = free_in(slots, group) {
+                return number;
+            }
+            groups[group] = false;
+        }
     }
+    unreachable!()
 }
 
 /// A buffer of two boxes of zeros.
@@ -118,6 +134,13 @@ pub(crate) fn free_slots(alloc: Global, blocks: u32) -> Result<(Vec<Slot>, u32),
         free += count_usable(number as usize);
     }
     Ok((slots, free))
+}
+
+/// For each group of a table of so many blocks, that one of them may be Free.
+pub(crate) fn all_groups(alloc: Global, blocks: u32) -> Result<Vec<bool>, OutOfMemory>
+    ensures { IfOk result (λ groups. groups.items ≡ replicate (blocks / 256 + 1) true) }
+{
+    Ok(vec![in alloc; true; blocks as usize / GROUP + 1]?)
 }
 
 /// The lists of a table of so many blocks: those of 32 parts and two batches.

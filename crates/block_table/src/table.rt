@@ -1,19 +1,20 @@
-ghost use Rattle.std.specs.Prelude.{◌≡◌, ◌≢◌, ◌≤◌, ◌<◌, ◌+◌, ◌-◌, ◌/◌, ◌↔◌, max, length, false, true, Some, None, [], IfOk, OnOk, OnErr, IsSome, IsTrue, option_copied, slice_index_or, slice_set, if◌then◌else◌};
+ghost use Rattle.std.specs.Prelude.{◌≡◌, ◌≢◌, ◌≤◌, ◌<◌, ◌+◌, ◌-◌, ◌/◌, ◌↔◌, ◌⊎◌, max, length, false, true, Some, None, [], IfOk, OnOk, OnErr, IsSome, IsTrue, option_copied, slice_index_or, slice_set, if◌then◌else◌};
 ghost use Rattle.std.specs.Borrow.{sem};
 ghost use Rattle.blk_base.specs.Address.{IsAllowed};
+ghost use Rattle.blk_base.specs.Bytes.{zeros};
 ghost use Rattle.block_table.specs.declared.state.SlotState.{SlotState};
 ghost use Rattle.block_table.specs.Blocks.{with_block};
 ghost use Rattle.block_table.specs.Slot.{free_slot, dirty_slot, is_whole, stood_slot};
-ghost use Rattle.block_table.specs.Table.{Table, IsLent, all_back, empty_table, free_blocks, slot_at, state_at, with_lists, with_slot, with_spare};
+ghost use Rattle.block_table.specs.Table.{NoneFree, Table, IsLent, all_back, empty_table, free_blocks, slot_at, state_at, with_lists, with_slot, with_spare};
 ghost use Rattle.block_table.specs.TableLends.{LendsBlock};
 
 use crate::blocks::Blocks;
 use crate::slot::{Buffer, Slot};
 use crate::state::SlotState;
 use crate::steps::{
-    add_buffers, count_usable, empty_lists, find_free, free_slots, is_usable, return_all,
+    GROUP, add_buffers, all_groups, count_usable, empty_lists, find_free, free_slots, return_all,
 };
-use blk_base::{Addr, Block, OutOfMemory};
+use blk_base::{Addr, Block, OutOfMemory, is_allowed};
 use std::alloc::Global;
 use std::marker::Model;
 use std::mem::replace;
@@ -27,7 +28,8 @@ pub struct BlockTable {
     spare: Vec<Buffer>,
     stock: Vec<Blocks>,
     free: u32,
-    next: u32,
+    low: usize,
+    groups: Vec<bool>,
 }
 
 impl Model for BlockTable {
@@ -38,7 +40,7 @@ impl Model for BlockTable {
 
     ghost view = { λ t. record { slots = t.slots.items; spare = vec_len t.spare; lists = vec_len t.stock } };
 
-    ghost invariant = { λ t. IsTable t.slots.items (vec_len t.spare) (vec_capacity t.spare) t.stock.items (vec_capacity t.stock) t.free t.next };
+    ghost invariant = { λ t. IsTable t.slots.items (vec_len t.spare) (vec_capacity t.spare) t.stock.items (vec_capacity t.stock) t.free t.low t.groups.items };
 }
 
 /// The number of the block at a byte address.
@@ -60,7 +62,8 @@ impl BlockTable {
             spare: Vec::new(alloc),
             stock: empty_lists(alloc, blocks)?,
             free,
-            next: 0,
+            low: 0,
+            groups: all_groups(alloc, blocks)?,
         })
     }
 
@@ -85,8 +88,7 @@ impl BlockTable {
     pub fn is_allowed(&self, at: Addr) -> bool
         ensures { IsTrue result ↔ IsAllowed (length self.now.slots) at.0 }
     {
-        let number = number_of(at);
-        at.0 % 4096 == 0 && number < self.slots.len() && is_usable(number)
+        is_allowed(self.blocks(), at)
     }
 
     /// How many blocks are Free and at an address that a volume may use.
@@ -124,21 +126,23 @@ impl BlockTable {
         }
     }
 
-    /// Takes a Free block that a volume may use, with a spare buffer of any bytes, and makes it Dirty.
+    /// Takes the first Free block that a volume may use, with a spare buffer of any bytes, and makes it Dirty. It goes over
+    /// at most a group's blocks that aren't Free, and over marks of groups.
     pub fn take(&mut self) -> Addr
         requires spare { 1 ≤ self.old.spare }
         requires free { 1 ≤ free_blocks self.old }
         ensures allowed { IsAllowed (length self.old.slots) result.0 }
         ensures free { state_at self.old result ≡ SlotState.Free }
+        ensures lowest { NoneFree self.old.slots 0 (result.0 / 4096) }
         ensures table { self.new ≡ with_spare (with_slot self.old result (dirty_slot (slot_at self.new result).bytes)) (self.old.spare - 1) }
     {
-        let number = find_free(&self.slots, self.next);
+        let number = find_free(&self.slots, self.low, &mut self.groups);
         let Some(buffer) = self.spare.pop() else {
             unreachable!()
         };
-        self.slots[number as usize] = Slot::dirty(buffer);
+        self.slots[number] = Slot::dirty(buffer);
         self.free -= 1;
-        self.next = number + 1;
+        self.low = number;
         Addr(number as u64 * 4096)
     }
 
@@ -154,6 +158,19 @@ impl BlockTable {
         };
         self.slots[number_of(at)] = Slot::stand(buffer, from, is_data);
         self.free -= 1;
+    }
+
+    /// Makes a block that is Sealed or Live Dirty, with a spare buffer of zeros in place of its own. A list that is out and
+    /// has it keeps its box, and gives it back as any other.
+    pub fn reuse(&mut self, at: Addr)
+        requires written { (state_at self.old at ≡ SlotState.Sealed) ⊎ (state_at self.old at ≡ SlotState.Live) }
+        requires spare { 1 ≤ self.old.spare }
+        ensures { self.new ≡ with_spare (with_slot self.old at (dirty_slot (zeros 4096))) (self.old.spare - 1) }
+    {
+        let Some(buffer) = self.spare.pop() else {
+            unreachable!()
+        };
+        self.slots[number_of(at)] = Slot::empty(buffer);
     }
 
     /// Makes a block that is Sealed Live, with its bytes as they are.
@@ -296,21 +313,14 @@ impl BlockTable {
         let slot = replace(&mut self.slots[number], Slot::free());
         self.spare.push_reserved(slot.into_buffer());
         self.free += count_usable(number);
+        self.low = self.low.min(number);
+        self.groups[number / GROUP] = true;
     }
 
-    /// Whether a list is one that this table lent: it has as much room as the table has blocks, and each of its blocks
-    /// is out.
+    /// Whether a list is one that this table lent: it has as much room as the table has blocks.
     pub fn has_lent(&self, blocks: &Blocks) -> bool
         ensures { IsTrue result ↔ IsLent self.now blocks.now }
     {
-        if blocks.room() != self.blocks() {
-            return false;
-        }
-        for place in 0..blocks.len() {
-            if !self.is_out(blocks.get(place).0) {
-                return false;
-            }
-        }
-        true
+        blocks.room() == self.blocks()
     }
 }

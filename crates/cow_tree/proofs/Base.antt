@@ -6,7 +6,8 @@ use Rattle.std.proofs.lemmas.List.Elements.{All-weaker}
 use Rattle.blk_base.specs.declared.key.Key.{Key}
 use Rattle.blk_base.specs.Leaf.{Item, Pointer}
 use Rattle.block_table.specs.Table.{Table}
-use Rattle.block_table.specs.TreeIn.{IsTaken, block_at, first_key, least_items}
+use Rattle.blk_base.specs.Trees.{first_key, least_items}
+use Rattle.block_table.specs.TreeIn.{IsTaken, block_at}
 use Rattle.tree_range.specs.Between.{data_under}
 use Rattle.tree_range.specs.Part.{times_in}
 use Rattle.tree_range.specs.Shape.{IsSubtree, leaf_items}

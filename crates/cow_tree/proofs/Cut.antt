@@ -12,7 +12,8 @@ use Rattle.blk_base.specs.Keys.{keys_rise}
 use Rattle.blk_base.specs.Leaf.{Item, Pointer}
 use Rattle.block_table.specs.declared.state.SlotState.TheVariants.{LetGo}
 use Rattle.block_table.specs.Table.{Table}
-use Rattle.block_table.specs.TreeIn.{IsTaken, ItemsRise, block_at, first_key}
+use Rattle.blk_base.specs.Trees.{ItemsRise, first_key}
+use Rattle.block_table.specs.TreeIn.{IsTaken, block_at}
 use Rattle.leaf_view.specs.Search.{pointer_keys}
 use Rattle.tree_range.specs.Between.{AreAbove, AreBelow}
 use Rattle.tree_range.specs.Part.{times_in}

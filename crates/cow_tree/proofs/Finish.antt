@@ -7,7 +7,8 @@ use Rattle.blk_base.specs.declared.key.Key.{Key}
 use Rattle.blk_base.specs.declared.key.Want.{Want}
 use Rattle.blk_base.specs.Leaf.{Item, Pointer}
 use Rattle.block_table.specs.Table.{Table}
-use Rattle.block_table.specs.TreeIn.{IsSealedSubtree, IsTaken, block_at, first_key, least_pointers}
+use Rattle.blk_base.specs.Trees.{first_key, least_pointers}
+use Rattle.block_table.specs.TreeIn.{IsSealedSubtree, IsTaken, block_at}
 use Rattle.leaf_view.proofs.NodeLaws.{node_body_means}
 use Rattle.tree_range.specs.Between.{data_under}
 use Rattle.tree_range.specs.Part.{times_in}

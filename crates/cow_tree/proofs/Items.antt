@@ -8,7 +8,7 @@ use Rattle.std.proofs.Math.Seq.{take-append_seam, drop-append_seam}
 use Rattle.blk_base.specs.declared.key.Key.{Key}
 use Rattle.blk_base.specs.Keys.{KeyBelow, key_below, keys_rise}
 use Rattle.blk_base.specs.Leaf.{Item, data_of, room_of}
-use Rattle.block_table.specs.TreeIn.{ItemsRise}
+use Rattle.blk_base.specs.Trees.{ItemsRise}
 use Rattle.leaf_view.specs.KeyOrder.{KeyBelow_irrefl, KeyBelow_trans}
 use Rattle.leaf_view.specs.Search.{IsPlace, keys_of}
 use Rattle.leaf_view.proofs.Rising.{key_below_from, key_below_means}

@@ -11,7 +11,8 @@ use Rattle.blk_base.specs.Leaf.{Item, data_of, room_of}
 use Rattle.block_table.specs.declared.state.SlotState.TheVariants.{Free, Dirty}
 use Rattle.block_table.specs.Slot.{BlockSlot}
 use Rattle.block_table.specs.Table.{Table}
-use Rattle.block_table.specs.TreeIn.{ItemsRise, block_at, first_key}
+use Rattle.blk_base.specs.Trees.{ItemsRise, first_key}
+use Rattle.block_table.specs.TreeIn.{block_at}
 use Rattle.leaf_view.specs.Search.{IsPlace, contents_of, keys_of}
 use Rattle.tree_range.specs.Part.{times_in}
 use Rattle.tree_range.specs.Between.{data_under}

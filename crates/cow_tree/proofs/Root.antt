@@ -10,7 +10,8 @@ use Rattle.blk_base.specs.Leaf.{Pointer}
 use Rattle.block_table.specs.declared.state.SlotState.TheVariants.{LetGo}
 use Rattle.block_table.specs.declared.tree.Tree.{Tree}
 use Rattle.block_table.specs.Table.{Table}
-use Rattle.block_table.specs.TreeIn.{IsSealedSubtree, IsSealedTree, IsTaken, ItemsRise, block_at}
+use Rattle.blk_base.specs.Trees.{ItemsRise}
+use Rattle.block_table.specs.TreeIn.{IsSealedSubtree, IsSealedTree, IsTaken, block_at}
 use Rattle.leaf_view.specs.Search.{pointer_keys}
 use Rattle.blk_base.specs.Keys.{keys_rise}
 use Rattle.tree_range.specs.Between.{data_under}

@@ -6,7 +6,7 @@ use Rattle.std.proofs.lemmas.List.Elements.{All-head, All-nil, All-same, All-tai
 use Rattle.blk_base.specs.declared.key.Key.{Key}
 use Rattle.blk_base.specs.Keys.{KeyBelow, keys_rise}
 use Rattle.blk_base.specs.Leaf.{Item, Pointer}
-use Rattle.block_table.specs.TreeIn.{ItemsRise, first_key}
+use Rattle.blk_base.specs.Trees.{ItemsRise, first_key}
 use Rattle.leaf_view.specs.KeyOrder.{KeyBelow_trans}
 use Rattle.leaf_view.specs.Search.{pointer_keys}
 use Rattle.leaf_edit.specs.Rises.{rise_cons}

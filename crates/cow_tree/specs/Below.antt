@@ -5,7 +5,8 @@ use Rattle.blk_base.specs.declared.key.Key.{Key}
 use Rattle.blk_base.specs.declared.key.Want.{Want}
 use Rattle.blk_base.specs.Leaf.{Pointer}
 use Rattle.block_table.specs.Table.{Table}
-use Rattle.block_table.specs.TreeIn.{IsSealedSubtree, ItemsRise, NoneTwice, first_key}
+use Rattle.blk_base.specs.Trees.{ItemsRise, NoneTwice, first_key}
+use Rattle.block_table.specs.TreeIn.{IsSealedSubtree}
 use Rattle.tree_range.specs.Between.{data_under}
 use Rattle.tree_range.specs.Shape.{IsSubtree, items_below, node_pointers, reach_below}
 use Rattle.tree_frame.specs.Frame.{AreCurrent, leaves_below, with_item}

@@ -1,9 +1,11 @@
 -- One block edited: the blocks that stand in its place, and what they list together.
 use Rattle.std.specs.Prelude.{◌≡◌, ◌≤◌, ℕ, List, [], ◌∷◌, length, All, Some, None}
 use Rattle.std.specs.List.{flat_map}
+use Rattle.blk_base.specs.declared.format.TheConstants.{MOST_POINTERS}
+use Rattle.blk_base.specs.declared.limits.TheConstants.{LEAST_POINTERS}
 use Rattle.blk_base.specs.Leaf.{Item, Pointer}
 use Rattle.block_table.specs.Table.{Table}
-use Rattle.block_table.specs.TreeIn.{first_key}
+use Rattle.blk_base.specs.Trees.{first_key}
 use Rattle.tree_range.specs.Path.{key_behind}
 use Rattle.tree_blocks.specs.Steps.{IsDirtyLeaf, IsDirtyNode, leaf_at, node_at}
 use Rattle.cow_tree.specs.Change.{IsChange}
@@ -30,5 +32,5 @@ pub record IsNodeSpread (old new : Table) (at : ℕ) (pointers : List Pointer) (
   pub pointers_are : flat_map (λ pointer. node_at new pointer.at) pieces ≡ pointers
   pub each : All (IsNodePiece new) pieces
   pub changes : IsChange old new (at ∷ []) (ats_of pieces) most
-  pub large : 2 ≤ length pieces → All (λ pointer. 30 ≤ length (node_at new pointer.at)) pieces
-  pub one : length pointers ≤ 121 → length pieces ≡ 1
+  pub large : 2 ≤ length pieces → All (λ pointer. LEAST_POINTERS ≤ length (node_at new pointer.at)) pieces
+  pub one : length pointers ≤ MOST_POINTERS → length pieces ≡ 1

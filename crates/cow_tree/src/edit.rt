@@ -10,6 +10,7 @@ use crate::node::node_over;
 use crate::pieces::Pieces;
 use crate::write::write_below;
 use blk_base::Key;
+use blk_base::format::MOST_ITEM_BYTES;
 use block_table::{BlockTable, Tree};
 
 /// Puts an item into a tree, in place of the one of its key, where there is one. Where two or three blocks then stand in
@@ -18,7 +19,7 @@ use block_table::{BlockTable, Tree};
 fn write(table: &mut BlockTable, tree: &mut Tree, key: Key, bytes: &[u8])
     requires tree { IsTree table.old tree.old }
     requires current { AreCurrent table.old (tree_reach table.old tree.old) }
-    requires short { length bytes.now ≤ 3970 }
+    requires short { length bytes.now ≤ MOST_ITEM_BYTES }
     requires spare { 17 ≤ table.old.spare }
     requires free { 17 ≤ free_blocks table.old }
     ensures { IsTreeWritten table.old table.new tree.old tree.new key bytes.now }
@@ -41,7 +42,7 @@ pub fn put(table: &mut BlockTable, tree: &mut Tree, key: Key, bytes: &[u8])
     requires tree { IsTree table.old tree.old }
     requires current { AreCurrent table.old (tree_reach table.old tree.old) }
     requires absent { data_under key (tree_items table.old tree.old) ≡ None }
-    requires short { length bytes.now ≤ 3970 }
+    requires short { length bytes.now ≤ MOST_ITEM_BYTES }
     requires spare { 17 ≤ table.old.spare }
     requires free { 17 ≤ free_blocks table.old }
     ensures tree { IsTree table.new tree.new }
@@ -63,7 +64,7 @@ pub fn replace(table: &mut BlockTable, tree: &mut Tree, key: Key, bytes: &[u8])
     requires tree { IsTree table.old tree.old }
     requires current { AreCurrent table.old (tree_reach table.old tree.old) }
     requires present { IsSome (data_under key (tree_items table.old tree.old)) }
-    requires short { length bytes.now ≤ 3970 }
+    requires short { length bytes.now ≤ MOST_ITEM_BYTES }
     requires spare { 17 ≤ table.old.spare }
     requires free { 17 ≤ free_blocks table.old }
     ensures tree { IsTree table.new tree.new }

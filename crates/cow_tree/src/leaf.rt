@@ -14,6 +14,7 @@ ghost use Rattle.cow_tree.specs.Spread.{IsLeafPiece, IsLeafSpread};
 
 use crate::own::own_block;
 use crate::pieces::Pieces;
+use blk_base::format::{ITEM_HEADER_SIZE, LEAF_BYTES};
 use blk_base::{Addr, Key};
 use block_table::BlockTable;
 use tree_blocks::{
@@ -37,7 +38,7 @@ fn leaf_piece(table: &BlockTable, at: Addr) -> Child
 
 /// A new leaf with one item.
 fn lone_leaf(table: &mut BlockTable, key: Key, bytes: &[u8]) -> Addr
-    requires short { 25 + length bytes.now ≤ 3995 }
+    requires short { ITEM_HEADER_SIZE + length bytes.now ≤ LEAF_BYTES }
     requires spare { 1 ≤ table.old.spare }
     requires free { 1 ≤ free_blocks table.old }
     ensures items { leaf_at table.new result.0 ≡ (key, bytes.now) ∷ [] }
@@ -53,7 +54,7 @@ fn lone_leaf(table: &mut BlockTable, key: Key, bytes: &[u8]) -> Addr
 fn put_in_front(table: &mut BlockTable, at: Addr, key: Key, bytes: &[u8]) -> Pieces
     requires leaf { IsDirtyLeaf table.old at.0 }
     requires some { 1 ≤ length (leaf_at table.old at.0) }
-    requires short { 25 + length bytes.now ≤ 3995 }
+    requires short { ITEM_HEADER_SIZE + length bytes.now ≤ LEAF_BYTES }
     requires spare { 1 ≤ table.old.spare }
     requires free { 1 ≤ free_blocks table.old }
     ensures { IsLeafSpread table.old table.new at.0 ((key, bytes.now) ∷ leaf_at table.old at.0) (pointers_of result) 1 }
@@ -66,7 +67,7 @@ fn put_in_front(table: &mut BlockTable, at: Addr, key: Key, bytes: &[u8]) -> Pie
 fn put_behind(table: &mut BlockTable, at: Addr, key: Key, bytes: &[u8]) -> Pieces
     requires leaf { IsDirtyLeaf table.old at.0 }
     requires some { 1 ≤ length (leaf_at table.old at.0) }
-    requires short { 25 + length bytes.now ≤ 3995 }
+    requires short { ITEM_HEADER_SIZE + length bytes.now ≤ LEAF_BYTES }
     requires spare { 1 ≤ table.old.spare }
     requires free { 1 ≤ free_blocks table.old }
     ensures { IsLeafSpread table.old table.new at.0 (leaf_at table.old at.0 ++ (key, bytes.now) ∷ []) (pointers_of result) 1 }
@@ -82,7 +83,7 @@ fn put_between(table: &mut BlockTable, at: Addr, place: usize, key: Key, bytes: 
     requires order { IsPlace (keys_of (leaf_at table.old at.0)) key place }
     requires behind { 1 ≤ place }
     requires before { place < length (leaf_at table.old at.0) }
-    requires short { 25 + length bytes.now ≤ 3995 }
+    requires short { ITEM_HEADER_SIZE + length bytes.now ≤ LEAF_BYTES }
     requires spare { 2 ≤ table.old.spare }
     requires free { 2 ≤ free_blocks table.old }
     ensures { IsLeafSpread table.old table.new at.0 (insert (leaf_at table.old at.0) place (key, bytes.now)) (pointers_of result) 2 }
@@ -117,7 +118,7 @@ fn fill(table: &mut BlockTable, at: Addr, gap: Gap, key: Key, bytes: &[u8]) -> P
     requires leaf { IsDirtyLeaf table.old at.0 }
     requires order { IsPlace (keys_of (leaf_at table.old at.0)) key gap.place }
     requires room { gap.room ≡ room_of (leaf_at table.old at.0) }
-    requires short { 25 + length bytes.now ≤ 3995 }
+    requires short { ITEM_HEADER_SIZE + length bytes.now ≤ LEAF_BYTES }
     requires spare { 2 ≤ table.old.spare }
     requires free { 2 ≤ free_blocks table.old }
     ensures spread { IsLeafSpread table.old table.new at.0 (insert (leaf_at table.old at.0) gap.place (key, bytes.now)) (pointers_of result) 2 }
@@ -167,7 +168,7 @@ pub(crate) fn write_in_leaf(table: &mut BlockTable, at: Addr, key: Key, bytes: &
     requires taken { state_at table.old at ≢ SlotState.Free }
     requires current { state_at table.old at ≢ SlotState.LetGo }
     requires leaf { IsLeafAt table.old at.0 }
-    requires short { 25 + length bytes.now ≤ 3995 }
+    requires short { ITEM_HEADER_SIZE + length bytes.now ≤ LEAF_BYTES }
     requires spare { 3 ≤ table.old.spare }
     requires free { 3 ≤ free_blocks table.old }
     ensures spread { IsLeafSpread table.old table.new at.0 (with_item key bytes.now (leaf_at table.old at.0)) (pointers_of result) 3 }

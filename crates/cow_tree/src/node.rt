@@ -12,17 +12,13 @@ ghost use Rattle.cow_tree.specs.Spread.{IsNodePiece, IsNodeSpread};
 
 use crate::own::own_block;
 use crate::pieces::Pieces;
+use blk_base::format::MOST_POINTERS;
+use blk_base::limits::{HALF_NODE, LEAST_POINTERS};
 use blk_base::{Addr, Key};
 use block_table::BlockTable;
 use tree_blocks::{
     Child, new_node, node_find, node_insert, node_key, node_len, node_remove, node_split,
 };
-
-/// The most pointers that a node has ("Internal Node" of the on-disk format).
-const MOST: usize = 121;
-
-/// How many pointers of a full node stay in it when it is split.
-const HALF: usize = 60;
 
 /// The number of the child under which a key belongs: the last whose first key isn't above it, else the first.
 pub(crate) fn child_place(table: &BlockTable, at: Addr, key: &Key) -> usize
@@ -53,7 +49,7 @@ fn node_piece(table: &BlockTable, at: Addr) -> Child
 fn put_child(table: &mut BlockTable, at: Addr, place: usize, child: Child)
     requires node { IsDirtyNode table.old at.0 }
     requires within { place ≤ length (node_at table.old at.0) }
-    requires room { length (node_at table.old at.0) < 121 }
+    requires room { length (node_at table.old at.0) < MOST_POINTERS }
     requires order { keys_rise (pointer_keys (insert (node_at table.old at.0) place (pointer_to child))) ≡ true }
     ensures pointers { node_at table.new at.0 ≡ insert (node_at table.old at.0) place (pointer_to child) }
     ensures node { IsDirtyNode table.new at.0 }
@@ -104,22 +100,22 @@ fn replace_in_half(table: &mut BlockTable, left: Addr, right: Addr, place: usize
     requires node { IsDirtyNode table.old left.0 }
     requires other_node { IsDirtyNode table.old right.0 }
     requires apart { left.0 ≢ right.0 }
-    requires front { length (node_at table.old left.0) ≡ 60 }
-    requires least { 60 ≤ length (node_at table.old right.0) }
+    requires front { length (node_at table.old left.0) ≡ HALF_NODE }
+    requires least { HALF_NODE ≤ length (node_at table.old right.0) }
     requires most { length (node_at table.old right.0) ≤ 61 }
-    requires within { place < 60 + length (node_at table.old right.0) }
+    requires within { place < HALF_NODE + length (node_at table.old right.0) }
     requires order { keys_rise (pointer_keys (spliced (node_at table.old left.0 ++ node_at table.old right.0) place (pointers_of pieces.now))) ≡ true }
     ensures pointers { node_at table.new left.0 ++ node_at table.new right.0 ≡ spliced (node_at table.old left.0 ++ node_at table.old right.0) place (pointers_of pieces.now) }
     ensures node { IsDirtyNode table.new left.0 }
     ensures other_node { IsDirtyNode table.new right.0 }
-    ensures large { 30 ≤ length (node_at table.new left.0) }
-    ensures other_large { 30 ≤ length (node_at table.new right.0) }
+    ensures large { LEAST_POINTERS ≤ length (node_at table.new left.0) }
+    ensures other_large { LEAST_POINTERS ≤ length (node_at table.new right.0) }
     ensures changes { IsChange table.old table.new (left.0 ∷ right.0 ∷ []) (left.0 ∷ right.0 ∷ []) 0 }
 {
-    if place < HALF {
+    if place < HALF_NODE {
         replace_child(table, left, place, pieces);
     } else {
-        replace_child(table, right, place - HALF, pieces);
+        replace_child(table, right, place - HALF_NODE, pieces);
     }
 }
 
@@ -127,14 +123,14 @@ fn replace_in_half(table: &mut BlockTable, left: Addr, right: Addr, place: usize
 fn split_node(table: &mut BlockTable, at: Addr, place: usize, pieces: &Pieces) -> Pieces
     requires node { IsDirtyNode table.old at.0 }
     requires within { place < length (node_at table.old at.0) }
-    requires most { length (node_at table.old at.0) ≤ 121 }
+    requires most { length (node_at table.old at.0) ≤ MOST_POINTERS }
     requires full { 122 < length (node_at table.old at.0) + length (pointers_of pieces.now) }
     requires order { keys_rise (pointer_keys (spliced (node_at table.old at.0) place (pointers_of pieces.now))) ≡ true }
     requires spare { 1 ≤ table.old.spare }
     requires free { 1 ≤ free_blocks table.old }
     ensures { IsNodeSpread table.old table.new at.0 (spliced (node_at table.old at.0) place (pointers_of pieces.now)) (pointers_of result) 1 }
 {
-    let right = node_split(table, at, HALF);
+    let right = node_split(table, at, HALF_NODE);
     replace_in_half(table, at, right, place, pieces);
     Pieces::Two(node_piece(table, at), node_piece(table, right))
 }
@@ -158,7 +154,7 @@ pub(crate) fn write_in_node(
     ensures { IsNodeSpread table.old table.new at.0 (spliced (node_at table.old at.0) place (pointers_of pieces.now)) (pointers_of result) 2 }
 {
     let own_at = own_block(table, at);
-    if node_len(table, own_at) + count(pieces) > MOST + 1 {
+    if node_len(table, own_at) + count(pieces) > MOST_POINTERS + 1 {
         return split_node(table, own_at, place, pieces);
     }
     replace_child(table, own_at, place, pieces);

@@ -103,34 +103,3 @@ fn puts_and_replaces(rt: HostRuntime) -> Result<(), Fail> {
     assert_eq!(rt; size(&rt, &table, &tree, 5), 3970);
     Ok(())
 }
-
-/// The key of an item, none twice among 400.
-fn offset_of(number: u64) -> u64
-    requires { number < 400 }
-{
-    number * 37 % 401
-}
-
-fn put_many(rt: &impl Abort, table: &mut BlockTable, tree: &mut Tree)
-    requires tree { IsTree table.old tree.old }
-    requires current { AreCurrent table.old (tree_reach table.old tree.old) }
-    ensures tree { IsTree table.new tree.new }
-{
-    for number in 0..400 {
-        put_one(rt, table, tree, offset_of(number), &[3; 900]);
-    }
-}
-
-/// Some hundred items make a tree of two levels of nodes, which has each of them.
-#[test]
-fn puts_many(rt: HostRuntime) -> Result<(), Fail> {
-    let mut table = BlockTable::new(rt.alloc(), 4096)?;
-    table.reserve(rt.alloc(), 400)?;
-    let mut tree = empty_tree(&rt, &mut table);
-    put_many(&rt, &mut table, &mut tree);
-    assert_eq!(rt; tree.level, 2);
-    for number in 0..400 {
-        assert_eq!(rt; size(&rt, &table, &tree, offset_of(number)), 900);
-    }
-    Ok(())
-}

@@ -6,6 +6,7 @@ ghost use Rattle.cow_tree.specs.Pieces.{pointers_of};
 use crate::leaf::write_in_leaf;
 use crate::node::{child_place, write_in_node};
 use crate::pieces::Pieces;
+use blk_base::format::{ITEM_HEADER_SIZE, LEAF_BYTES};
 use blk_base::{Addr, Key};
 use block_table::BlockTable;
 use tree_blocks::node_child;
@@ -20,7 +21,7 @@ pub(crate) fn write_below(
     bytes: &[u8],
 ) -> Pieces
     requires writable { IsWritable level table.old at.0 }
-    requires short { 25 + length bytes.now ≤ 3995 }
+    requires short { ITEM_HEADER_SIZE + length bytes.now ≤ LEAF_BYTES }
     requires spare { 2 * level + 3 ≤ table.old.spare }
     requires free { 2 * level + 3 ≤ free_blocks table.old }
     ensures { IsWritten level table.old table.new at.0 key bytes.now (pointers_of result) }

@@ -1,2 +1,3 @@
 pub mod Records
 pub mod Since
+pub mod States

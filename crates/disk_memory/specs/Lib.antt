@@ -2,3 +2,4 @@ pub mod Record
 pub mod RecordLaws
 pub mod MemoryDisk
 pub mod NeverFails
+pub mod ListDisk

@@ -1,14 +1,18 @@
 -- A disk in memory, as its callers see it.
 use Rattle.std.specs.Prelude.{◌≡◌, ◌+◌, ◌-◌, ◌^◌, ◌⊎◌, ℕ, List, [], length, min, cond, Bool, Option, Some, None, option_map, Contains, slice_index_or, ◌∷◌}
 use Rattle.disk_model.specs.Disk.{Image, Told}
-use Rattle.disk_memory.specs.Record.{told_by}
+use Rattle.disk_memory.specs.Record.{lost_by, told_by}
 use Rattle.disk_memory.specs.declared.memory_disk.MemoryDisk.{MemoryDisk}
 
 -- the record of its calls (own)
 abbrev pub told_of : MemoryDisk → Told
 told_of disk = told_by disk.kept.first.items.items disk.kept.entries.items
 
--- what a read gives (own)
+-- the blocks that a failed flush lost (own)
+abbrev pub lost_of : MemoryDisk → List ℕ
+lost_of disk = lost_by disk.kept.first.items.items disk.kept.entries.items
+
+-- what a read gives, but of a lost block (own)
 abbrev pub reads_of : MemoryDisk → Image
 reads_of disk = disk.kept.image.items.items
 

@@ -1,6 +1,6 @@
 -- The record that a disk in memory keeps, read as the calls that it tells.
-use Rattle.std.specs.Prelude.{List, [], ◌∷◌, Bool, true, false, slice_index_or, slice_set}
-use Rattle.disk_model.specs.Disk.{Image, Call, Told}
+use Rattle.std.specs.Prelude.{◌≡◌, ◌==◌, ◌||◌, ◌&&◌, ℕ, cond, Contains, List, [], ◌∷◌, Bool, true, false, slice_index_or, slice_set}
+use Rattle.disk_model.specs.Disk.{Image, Call, Held, Told, held_now}
 use Rattle.disk_memory.specs.declared.entry.Entry.{Entry}
 use Rattle.disk_memory.specs.declared.entry.Entry.TheVariants.{Write, Super, Flush}
 
@@ -33,13 +33,26 @@ abbrev pub told_by : Image → List Entry → Told
 told_by image entries =
     record { first = image; supers = slice_index_or image 16 [] ∷ []; calls = calls_of image entries }
 
--- no entry is a flush that answered Ok (own)
-abbrev pub has_no_flush : List Entry → Bool
-has_no_flush [] = true
-has_no_flush (Write place bytes ok ∷ entries) = has_no_flush entries
-has_no_flush (Super bytes ok ∷ entries) = has_no_flush entries
-has_no_flush (Flush true ∷ entries) = false
-has_no_flush (Flush false ∷ entries) = has_no_flush entries
+-- the lost blocks of such a disk (own)
+abbrev pub lost_by : Image → List Entry → List ℕ
+lost_by image entries = (held_now (told_by image entries)).lost
+
+-- whether a block is pending after this call, by whether it was (own)
+abbrev pub pending_then : Entry → ℕ → Bool → Bool
+pending_then (Write place bytes ok) at pending = (place.at == at) || pending
+pending_then (Super bytes ok) at pending = pending
+pending_then (Flush ok) at pending = false
+
+-- whether it is lost then, by whether it was pending and whether it was lost (own)
+abbrev pub lost_then : Entry → ℕ → Bool → Bool → Bool
+lost_then (Write place bytes ok) at pending lost = cond (ok && (place.at == at)) false lost
+lost_then (Super bytes ok) at pending lost = lost
+lost_then (Flush ok) at pending lost = cond ok lost (pending || lost)
+
+-- the block is pending, and lost, where these say so (own)
+pub record IsStateOf (held : Held) (at : ℕ) (pending lost : Bool) : Type 0 where
+  pub is_pending : pending ≡ true → Contains held.pending at
+  pub is_lost : lost ≡ true → Contains held.lost at
 
 -- no entry is a write of the superblock that answered Ok (own)
 abbrev pub has_no_super : List Entry → Bool

@@ -3,11 +3,11 @@ use Rattle.std.specs.Prelude.{◌≡◌, ◌≢◌, ◌<◌, ◌++◌, ◌∷◌
 use Rattle.std.proofs.Common.{sym, ◌∙◌, ap, subst, inl, inr, arith, get_or-set_other, get_or-set_same}
 use Rattle.std.proofs.lemmas.Bool.{cases_lt}
 use Rattle.std.proofs.lemmas.List.{length-set, set_past, take-append-drop}
-use Rattle.disk_model.specs.Disk.{Image, IsImage, Call, Held, Leaves, GoesOn, after_call, after_calls, held_first, held_now, image_now}
-use Rattle.disk_model.specs.Laws.{slice_get-set_other, Contains-here, Contains-there}
+use Rattle.disk_model.specs.Disk.{Image, IsImage, Call, Held, Leaves, GoesOn, IsUnsettled, without, after_call, after_calls, held_first, held_now, image_now}
+use Rattle.disk_model.proofs.CrashLaws.{slice_get-set_other, Contains-here, Contains-there}
 use Rattle.disk_memory.specs.declared.entry.Entry.{Entry}
 use Rattle.disk_memory.specs.declared.entry.Entry.TheVariants.{Write, Super, Flush}
-use Rattle.disk_memory.specs.Record.{call_of, image_by, calls_of, reads_by, told_by, has_no_flush, has_no_super}
+use Rattle.disk_memory.specs.Record.{call_of, image_by, calls_of, reads_by, told_by, has_no_super}
 
 -- one more entry
 pub calls_of-push : (image : Image) (entries : List Entry) (entry : Entry) → calls_of image (entries ++ entry ∷ []) ≡ calls_of image entries ++ call_of (reads_by image entries) entry ∷ []
@@ -74,16 +74,16 @@ record SuperIsFound (held : Held) : Type 0 where
   there : 16 < length held.image
   found : Contains held.supers (slice_index_or held.image 16 [])
 
-super_found-set : (held : Held) (at : ℕ) (left : List ℕ) (pending : List ℕ) → at ≢ 16 → SuperIsFound held → SuperIsFound (record { image = slice_set held.image at left; pending = pending; supers = held.supers })
-super_found-set held at left pending other is = record {
+super_found-set : (held : Held) (at : ℕ) (left : List ℕ) (pending lost : List ℕ) → at ≢ 16 → SuperIsFound held → SuperIsFound (record { image = slice_set held.image at left; pending = pending; lost = lost; supers = held.supers })
+super_found-set held at left pending lost other is = record {
   there = omega (arith, length-set held.image at left, is.there);
   found = subst (λ (super : List ℕ). Contains held.supers super) (sym (get_or-set_other held.image at 16 left [] (λ same. other (sym same)))) is.found;
 }
 
 super_found-call : (held : Held) (entry : Entry) → SuperIsFound held → SuperIsFound (after_call held (call_of held.image entry))
-super_found-call held (Write place bytes true) is = super_found-set held place.at bytes (place.at ∷ held.pending) place.not_super is
+super_found-call held (Write place bytes true) is = super_found-set held place.at bytes (place.at ∷ held.pending) (without place.at held.lost) place.not_super is
 super_found-call held (Write place bytes false) is =
-    super_found-set held place.at (slice_index_or held.image place.at []) (place.at ∷ held.pending) place.not_super is
+    super_found-set held place.at (slice_index_or held.image place.at []) (place.at ∷ held.pending) held.lost place.not_super is
 super_found-call held (Super bytes true) is = record {
   there = omega (arith, length-set held.image 16 bytes, is.there);
   found = subst (λ (super : List ℕ). Contains (bytes ∷ []) super) (sym (get_or-set_same held.image 16 bytes [] is.there)) (Contains-here bytes []);
@@ -108,43 +108,6 @@ leaves_as_read image entries there blocks =
       super = is.found;
       others = λ at other settled. refl;
     }
-
--- the block that an entry wrote is pending
-abbrev pub IsPending : List ℕ → Entry → Type 0
-IsPending pending (Write place bytes ok) = Contains pending place.at
-IsPending pending (Super bytes ok) = Unit {0}
-IsPending pending (Flush ok) = Unit {0}
-
-pending_stays : (held : Held) (entries : List Entry) (at : ℕ) → has_no_flush entries ≡ true → Contains held.pending at → Contains (run held entries).pending at
-pending_stays held [] at none pending = pending
-pending_stays held (Write place bytes true ∷ entries) at none pending =
-    pending_stays (after_call held (call_of held.image (Write place bytes true))) entries at none (Contains-there place.at held.pending at pending)
-pending_stays held (Write place bytes false ∷ entries) at none pending =
-    pending_stays (after_call held (call_of held.image (Write place bytes false))) entries at none (Contains-there place.at held.pending at pending)
-pending_stays held (Super bytes true ∷ entries) at none pending = pending_stays (after_call held (call_of held.image (Super bytes true))) entries at none pending
-pending_stays held (Super bytes false ∷ entries) at none pending = pending_stays (after_call held (call_of held.image (Super bytes false))) entries at none pending
-pending_stays held (Flush true ∷ entries) at none pending = cc
-pending_stays held (Flush false ∷ entries) at none pending = pending_stays (after_call held (call_of held.image (Flush false))) entries at none pending
-
-pending_here : (held : Held) (entry : Entry) (entries : List Entry) → has_no_flush (entry ∷ entries) ≡ true → IsPending (run held (entry ∷ entries)).pending entry
-pending_here held (Write place bytes true) entries none =
-    pending_stays (after_call held (call_of held.image (Write place bytes true))) entries place.at none (Contains-here place.at held.pending)
-pending_here held (Write place bytes false) entries none =
-    pending_stays (after_call held (call_of held.image (Write place bytes false))) entries place.at none (Contains-here place.at held.pending)
-pending_here held (Super bytes ok) entries none = tt
-pending_here held (Flush ok) entries none = tt
-
-no_flush_rest : (entry : Entry) (entries : List Entry) → has_no_flush (entry ∷ entries) ≡ true → has_no_flush entries ≡ true
-no_flush_rest (Write place bytes ok) entries none = none
-no_flush_rest (Super bytes ok) entries none = none
-no_flush_rest (Flush true) entries none = cc
-no_flush_rest (Flush false) entries none = none
-
-pub pending_each : (held : Held) (entries : List Entry) → has_no_flush entries ≡ true → All (IsPending (run held entries).pending) entries
-pending_each held [] none k d within = absurd (omega (arith, within))
-pending_each held (entry ∷ entries) none zero d within = pending_here held entry entries none
-pending_each held (entry ∷ entries) none (suc k) d within =
-    pending_each (after_call held (call_of held.image entry)) entries (no_flush_rest entry entries none) k d (omega (arith, within))
 
 -- the superblock that an entry wrote, or failed to, is one that a crash may find
 abbrev pub IsFound : List (List ℕ) → Entry → Type 0
@@ -180,13 +143,13 @@ found_each held (entry ∷ entries) none zero d within = found_here held entry e
 found_each held (entry ∷ entries) none (suc k) d within =
     found_each (after_call held (call_of held.image entry)) entries (no_super_rest entry entries none) k d (omega (arith, within))
 
--- an image that a crash may leave, with other bytes in a pending block
-pub Leaves-pending : (held : Held) (old new : Image) (at : ℕ) (block : List ℕ) → Leaves held old → IsImage new → new ≡ slice_set old at block → at ≢ 16 → Contains held.pending at → Leaves held new
-Leaves-pending held old new at block leaves blocks is other pending = record {
+-- an image that a crash may leave, with other bytes in a pending or lost block
+pub Leaves-torn : (held : Held) (old new : Image) (at : ℕ) (block : List ℕ) → Leaves held old → IsImage new → new ≡ slice_set old at block → at ≢ 16 → IsUnsettled held at → Leaves held new
+Leaves-torn held old new at block leaves blocks is other unsettled = record {
   blocks = blocks;
   size = ap length is ∙ length-set old at block ∙ leaves.size;
   super = subst (λ (super : List ℕ). Contains held.supers super) (sym (ap (λ (image : Image). slice_index_or image 16 []) is ∙ get_or-set_other old at 16 block [] (λ same. other (sym same)))) leaves.super;
-  others = λ k not_super settled. ap (λ (image : Image). slice_get image k) is ∙ slice_get-set_other old at k block (λ same. settled (subst (λ (n : ℕ). Contains held.pending n) (sym same) pending)) ∙ leaves.others k not_super settled;
+  others = λ k not_super settled. ap (λ (image : Image). slice_get image k) is ∙ slice_get-set_other old at k block (λ same. settled (subst (λ (n : ℕ). IsUnsettled held n) (sym same) unsettled)) ∙ leaves.others k not_super settled;
 }
 
 -- an image that a crash may leave, with another superblock that it may find
@@ -201,12 +164,6 @@ Leaves-super held old new block leaves blocks is found =
         others = λ k not_super settled. ap (λ (image : Image). slice_get image k) is ∙ slice_get-set_other old 16 k block not_super ∙ leaves.others k not_super settled;
       }
     ]
-
--- the entries that follow the last flush that answered Ok wrote blocks that are pending
-pub pending_since : (image : Image) (entries : List Entry) (n : ℕ) → has_no_flush (drop n entries) ≡ true → All (IsPending (held_now (told_by image entries)).pending) (drop n entries)
-pending_since image entries n none =
-    let whole : run (held_first (told_by image entries)) entries ≡ run (run (held_first (told_by image entries)) (take n entries)) (drop n entries) = ap (λ (all : List Entry). run (held_first (told_by image entries)) all) (sym (take-append-drop n entries)) ∙ run-append (held_first (told_by image entries)) (take n entries) (drop n entries) in
-    subst (λ (held : Held). All (IsPending held.pending) (drop n entries)) (sym (held_now-told image entries ∙ whole)) (pending_each (run (held_first (told_by image entries)) (take n entries)) (drop n entries) none)
 
 -- the entries that follow the last write of the superblock that answered Ok tried superblocks that a crash may find
 pub found_since : (image : Image) (entries : List Entry) (n : ℕ) → has_no_super (drop n entries) ≡ true → All (IsFound (held_now (told_by image entries)).supers) (drop n entries)

@@ -4,7 +4,7 @@ ghost use Rattle.disk_memory.specs.Record.{told_by};
 ghost use Rattle.disk_memory.specs.MemoryDisk.{IsFresh, told_of, reads_of, room_of};
 
 use crate::blocks::Blocks;
-use crate::entry::Entry;
+use crate::entry::{Entry, Place};
 use crate::kept::Kept;
 use crate::memory_disk::MemoryDisk;
 use blk_base::{Block, OutOfMemory};
@@ -27,16 +27,27 @@ impl MemoryDisk {
     }
 }
 
-/// Puts into each pending block what it held at the last flush, what was written, a mixture or other bytes.
+/// Puts into each pending or lost block what was durable of it, what was written, a mixture or other bytes.
 fn tear(kept: &Kept, rng: &mut Lcg64Xsh32, image: &mut Blocks)
     requires { Leaves (held_now (told_by kept.now.first.items.items kept.now.entries.items)) image.old.items.items }
     ensures { Leaves (held_now (told_by kept.now.first.items.items kept.now.entries.items)) image.new.items.items }
 {
-    for entry in &kept.entries[kept.flushed..] {
+    for entry in &kept.entries {
         if let Entry::Write { place, bytes, .. } = entry {
-            let block = torn(rng, &settled(kept, place.at, bytes), bytes);
-            image.set(place.at, &block);
+            tear_block(kept, rng, image, place, bytes);
         }
+    }
+}
+
+/// The same of one block, to which these bytes were written.
+fn tear_block(kept: &Kept, rng: &mut Lcg64Xsh32, image: &mut Blocks, place: &Place, bytes: &Block)
+    requires { Leaves (held_now (told_by kept.now.first.items.items kept.now.entries.items)) image.old.items.items }
+    ensures { Leaves (held_now (told_by kept.now.first.items.items kept.now.entries.items)) image.new.items.items }
+{
+    let state = kept.state_of(place.at, bytes);
+    if state.pending || state.lost {
+        let block = torn(rng, &state.durable, bytes);
+        image.set(place.at, &block);
     }
 }
 
@@ -52,22 +63,6 @@ fn choose_super(kept: &Kept, rng: &mut Lcg64Xsh32, image: &mut Blocks)
             }
         }
     }
-}
-
-/// What a block held at the last flush that answered Ok, and `other` where there is no such block.
-fn settled(kept: &Kept, at: u32, other: &Block) -> Block {
-    let mut block = match kept.first.items.get(at as usize) {
-        Some(first) => *first,
-        None => *other,
-    };
-    for entry in &kept.entries[..kept.flushed] {
-        if let Entry::Write { place, bytes, ok } = entry {
-            if *ok && place.at == at {
-                block = *bytes;
-            }
-        }
-    }
-    block
 }
 
 /// The old bytes, the new ones, the old ones and then the new, or other ones.

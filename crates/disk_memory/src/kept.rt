@@ -1,7 +1,8 @@
-ghost use Rattle.std.specs.Prelude.{◌≡◌, ◌<◌, ◌≤◌, ◌∷◌, ◌≢◌, ◌+◌, ◌==◌, [], true, Some, length, drop, slice_index_or, slice_set, vec_len, vec_capacity, IfOk, if◌then◌else◌};
-ghost use Rattle.disk_model.specs.Disk.{GoesOn, Call, written, super_written};
-ghost use Rattle.disk_memory.specs.Record.{reads_by, told_by, has_no_flush, has_no_super};
+ghost use Rattle.std.specs.Prelude.{◌≡◌, ◌<◌, ◌≤◌, ◌∷◌, ◌≢◌, ◌+◌, ◌==◌, [], ℕ, true, Some, Contains, length, drop, slice_index_or, slice_set, vec_len, vec_capacity, IfOk, if◌then◌else◌};
+ghost use Rattle.disk_model.specs.Disk.{GoesOn, Call, held_now, lost_after, written, super_written};
+ghost use Rattle.disk_memory.specs.Record.{IsStateOf, lost_by, reads_by, told_by, has_no_super};
 
+use crate::block_state::BlockState;
 use crate::blocks::Blocks;
 use crate::entry::{Entry, Place};
 use blk_base::{Block, OutOfMemory};
@@ -14,16 +15,12 @@ pub struct Kept {
     pub image: Blocks,
     pub entries: Vec<Entry>,
     pub room: u32,
-    /// How many entries there are up to the last flush that answered Ok.
-    pub flushed: usize,
     /// How many entries there are up to the last write of the superblock that answered Ok.
     pub super_from: usize,
     ghost has_super: { 16 < length first.items.items },
     ghost reads: { image.items.items ≡ reads_by first.items.items entries.items },
     ghost fits: { vec_len entries ≤ room },
     ghost reserved: { room ≤ vec_capacity entries },
-    ghost flushed_before: { flushed ≤ length entries.items },
-    ghost flushed_last: { has_no_flush (drop flushed entries.items) ≡ true },
     ghost super_before: { super_from ≤ length entries.items },
     ghost super_last: { has_no_super (drop super_from entries.items) ≡ true },
 }
@@ -42,7 +39,6 @@ impl Kept {
             image,
             entries: Vec::with_capacity(alloc, room as usize)?,
             room,
-            flushed: 0,
             super_from: 0,
         })
     }
@@ -54,6 +50,31 @@ impl Kept {
         self.entries.len() == self.room as usize
     }
 
+    /// What a read of this block gives: of a lost one what was durable when the flush failed.
+    pub fn read(&self, at: u32) -> Block
+        requires { at < length self.now.image.items.items }
+        ensures { (Contains (lost_by self.now.first.items.items self.now.entries.items) at → ⊥) → result ≡ slice_index_or self.now.image.items.items at [] }
+    {
+        let found = *self.image.get(at);
+        let state = self.state_of(at, &found);
+        if state.lost { state.durable } else { found }
+    }
+
+    /// What is known of this block: whether it is pending or lost, and its durable bytes where what was pending at a flush
+    /// that failed was dropped. `other`: its bytes at first, where the disk has no such block.
+    pub fn state_of(&self, at: u32, other: &Block) -> BlockState
+        ensures { IsStateOf (held_now (told_by self.now.first.items.items self.now.entries.items)) at result.pending result.lost }
+    {
+        let mut state = BlockState::new(match self.first.items.get(at as usize) {
+            Some(first) => first,
+            None => other,
+        });
+        for entry in &self.entries {
+            state.follow(entry, at);
+        }
+        state
+    }
+
     /// Records a write, which answered Ok or not.
     pub fn write(&mut self, at: u32, from: &Block, ok: bool)
         requires range { at < length self.old.image.items.items }
@@ -61,6 +82,7 @@ impl Kept {
         requires room { vec_len self.old.entries < self.old.room }
         ensures image { self.new.image.items.items ≡ (if ok then slice_set self.old.image.items.items at from.now else self.old.image.items.items) }
         ensures told { GoesOn (told_by self.old.first.items.items self.old.entries.items) (told_by self.new.first.items.items self.new.entries.items) (written at from.now ok (Some self.new.image.items.items) ∷ []) }
+        ensures lost { lost_by self.new.first.items.items self.new.entries.items ≡ lost_after at ok (lost_by self.old.first.items.items self.old.entries.items) }
         ensures used { vec_len self.new.entries ≡ vec_len self.old.entries + 1 }
         ensures room { self.new.room ≡ self.old.room }
     {
@@ -80,6 +102,7 @@ impl Kept {
         requires room { vec_len self.old.entries < self.old.room }
         ensures image { self.new.image.items.items ≡ (if ok then slice_set self.old.image.items.items 16 from.now else self.old.image.items.items) }
         ensures told { GoesOn (told_by self.old.first.items.items self.old.entries.items) (told_by self.new.first.items.items self.new.entries.items) (super_written from.now ok (Some self.new.image.items.items) ∷ []) }
+        ensures lost { lost_by self.new.first.items.items self.new.entries.items ≡ lost_by self.old.first.items.items self.old.entries.items }
         ensures used { vec_len self.new.entries ≡ vec_len self.old.entries + 1 }
         ensures room { self.new.room ≡ self.old.room }
     {
@@ -92,18 +115,15 @@ impl Kept {
             .push_reserved(Entry::Super { bytes: *from, ok });
     }
 
-    /// Records a flush, which answered Ok or not.
+    /// Records a flush, which answered Ok or not. All that was pending at one that failed is lost.
     pub fn flush(&mut self, ok: bool)
         requires room { vec_len self.old.entries < self.old.room }
         ensures image { self.new.image.items.items ≡ self.old.image.items.items }
         ensures told { GoesOn (told_by self.old.first.items.items self.old.entries.items) (told_by self.new.first.items.items self.new.entries.items) (Call.Flush ok ∷ []) }
+        ensures lost { ok ≡ true → lost_by self.new.first.items.items self.new.entries.items ≡ lost_by self.old.first.items.items self.old.entries.items }
         ensures used { vec_len self.new.entries ≡ vec_len self.old.entries + 1 }
         ensures room { self.new.room ≡ self.old.room }
     {
-        let used = self.entries.len();
-        if ok {
-            self.flushed = used + 1;
-        }
         self.entries.push_reserved(Entry::Flush { ok });
     }
 }

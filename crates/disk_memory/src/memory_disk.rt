@@ -1,5 +1,5 @@
 ghost use Rattle.std.specs.Prelude.{◌≡◌, ◌≢◌, ◌<◌, ◌≤◌, ◌↔◌, ◌⊎◌, length, replicate, Some, [], IfOk, IsErr, OnOk, IsErrOf, is_ok};
-ghost use Rattle.disk_model.specs.Disk.{Call, Continues, Changes, ReadGives, HasCause, written, super_written};
+ghost use Rattle.disk_model.specs.Disk.{Call, Continues, Changes, ReadGives, HasCause, lost_after, written, super_written};
 
 use crate::blocks::Blocks;
 use crate::fault::{MemoryDiskFault, zeroed};
@@ -9,7 +9,8 @@ use blk_base::{Block, OutOfMemory};
 use disk_model::{Disk, DiskFailed};
 use std::alloc::Global;
 
-/// A disk in memory that keeps the record of its calls, and fails at those that it is told.
+/// A disk in memory that keeps the record of its calls, and fails at those that it is told. A flush that fails drops what
+/// was pending: a read gives what was durable before, until the block is written again.
 #[derive(Drop)]
 pub struct MemoryDisk {
     pub(crate) kept: Kept,
@@ -70,13 +71,15 @@ impl MemoryDisk {
 impl Disk for MemoryDisk {
     ghost use Rattle.std.specs.Prelude.{◌≡◌, ◌≢◌, ◌<◌, ◌↔◌, ◌⊎◌, length, Some, IsErr, OnOk, is_ok, refl};
     ghost use Rattle.std.proofs.Common.{◌∙◌, sym, ap, subst};
-    ghost use Rattle.disk_model.specs.Disk.{Call, Image, IsImage, Continues, Changes, ReadGives, HasCause, written, super_written};
+    ghost use Rattle.disk_model.specs.Disk.{Call, Image, IsImage, Continues, Changes, ReadGives, HasCause, lost_after, written, super_written};
     ghost use Rattle.disk_memory.specs.RecordLaws.{image_now-told, leaves_as_read};
-    ghost use Rattle.disk_memory.specs.MemoryDisk.{told_of, reads_of, used_of, faults_of, FailsNext, IsFull, IsCounted, KeepsPlan};
+    ghost use Rattle.disk_memory.specs.MemoryDisk.{told_of, lost_of, reads_of, used_of, faults_of, FailsNext, IsFull, IsCounted, KeepsPlan};
 
     ghost count = { λ disk. length (reads_of disk) };
 
     ghost seen = { λ disk. Some (reads_of disk) };
+
+    ghost lost = { lost_of };
 
     ghost told = { λ disk. Some (told_of disk) };
 
@@ -90,9 +93,10 @@ impl Disk for MemoryDisk {
 
     fn read(&mut self, at: u32, into: &mut Block) -> Result<(), DiskFailed>
         requires { at < length (reads_of self.old) }
-        ensures bytes { OnOk result (ReadGives (Some (reads_of self.old)) at into.new) }
+        ensures bytes { OnOk result (ReadGives (Some (reads_of self.old)) (lost_of self.old) at into.new) }
         ensures size { length (reads_of self.new) ≡ length (reads_of self.old) }
         ensures seen { Some (reads_of self.new) ≡ Some (reads_of self.old) }
+        ensures lost { lost_of self.new ≡ lost_of self.old }
         ensures told { Some (told_of self.new) ≡ Some (told_of self.old) }
         ensures cause { HasCause (faults_of self.old) (faults_of self.new) result }
 
@@ -102,7 +106,7 @@ impl Disk for MemoryDisk {
     {
         let fails = self.plan.begin();
         if !fails {
-            *into = *self.kept.image.get(at);
+            *into = self.kept.read(at);
         }
         self.plan.answer(!fails)
     }
@@ -113,6 +117,7 @@ impl Disk for MemoryDisk {
         requires not_super { at ≢ 16 }
         ensures size { length (reads_of self.new) ≡ length (reads_of self.old) }
         ensures seen { Changes (Some (reads_of self.old)) (Some (reads_of self.new)) at from.now (is_ok result) }
+        ensures lost { lost_of self.new ≡ lost_after at (is_ok result) (lost_of self.old) }
         ensures told { Continues (Some (told_of self.old)) (Some (told_of self.new)) (is_ok result) (written at from.now (is_ok result) (Some (reads_of self.new))) }
         ensures cause { HasCause (faults_of self.old) (faults_of self.new) result }
 
@@ -134,6 +139,7 @@ impl Disk for MemoryDisk {
         requires { 16 < length (reads_of self.old) }
         ensures size { length (reads_of self.new) ≡ length (reads_of self.old) }
         ensures seen { Changes (Some (reads_of self.old)) (Some (reads_of self.new)) 16 from.now (is_ok result) }
+        ensures lost { lost_of self.new ≡ lost_of self.old }
         ensures told { Continues (Some (told_of self.old)) (Some (told_of self.new)) (is_ok result) (super_written from.now (is_ok result) (Some (reads_of self.new))) }
         ensures cause { HasCause (faults_of self.old) (faults_of self.new) result }
 
@@ -153,6 +159,7 @@ impl Disk for MemoryDisk {
     fn flush(&mut self) -> Result<(), DiskFailed>
         ensures size { length (reads_of self.new) ≡ length (reads_of self.old) }
         ensures seen { Some (reads_of self.new) ≡ Some (reads_of self.old) }
+        ensures lost { OnOk result (lost_of self.new ≡ lost_of self.old) }
         ensures told { Continues (Some (told_of self.old)) (Some (told_of self.new)) (is_ok result) (Call.Flush (is_ok result)) }
         ensures cause { HasCause (faults_of self.old) (faults_of self.new) result }
 
@@ -169,6 +176,8 @@ impl Disk for MemoryDisk {
     }
 
     ghost reads_as_told = { λ disk. ap (λ (image : Image). Some image) (disk.kept.reads ∙ sym (image_now-told disk.kept.first.items.items disk.kept.entries.items)) };
+
+    ghost lost_as_told = { λ disk. refl };
 
     ghost reads_blocks = { λ disk. disk.kept.image.are_blocks };
 

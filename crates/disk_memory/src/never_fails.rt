@@ -30,12 +30,14 @@ impl NeverFails {
 }
 
 impl Disk for NeverFails {
-    ghost use Rattle.std.specs.Prelude.{length, Some, None, refl};
+    ghost use Rattle.std.specs.Prelude.{[], length, Some, None, refl};
     ghost use Rattle.disk_memory.specs.NeverFails.{never_reads};
 
     ghost count = { λ disk. length (never_reads disk) };
 
     ghost seen = { λ disk. Some (never_reads disk) };
+
+    ghost lost = { λ disk. [] };
 
     ghost told = { λ disk. None };
 
@@ -65,6 +67,8 @@ impl Disk for NeverFails {
     }
 
     ghost reads_as_told = { λ disk. tt };
+
+    ghost lost_as_told = { λ disk. tt };
 
     ghost reads_blocks = { λ disk. disk.image.are_blocks };
 

@@ -4,6 +4,7 @@ ghost use Rattle.disk_model.specs.Disk.{Call, HasCause, TellsMore};
 use super::*;
 use blk_base::Block;
 use disk_model::{Disk, DiskFailed};
+use std::alloc::Global;
 use std::test::Fail;
 
 /// The way of every commit: the blocks, a flush, the superblock.
@@ -96,12 +97,17 @@ fn calls_fail_as_told(rt: HostRuntime) -> Result<(), Fail> {
 }
 
 #[test]
-fn never_fails(rt: HostRuntime) -> Result<(), Fail> {
+fn other_disks(rt: HostRuntime) -> Result<(), Fail> {
     let mut disk = NeverFails::new(rt.alloc(), 4096)?;
     assert_eq!(rt; commit(&mut disk, 9), Ok(()));
-    assert_eq!(rt; get(&mut disk, 100)?[17], 9);
     assert_eq!(rt; get(&mut disk, 16)?[17], 9);
     assert_eq!(rt; get(&mut disk, 101)?[17], 0);
+
+    let mut disk = ListDisk::new(rt.alloc(), 4096, 3);
+    assert_eq!(rt; commit(&mut disk, 9), Err(DiskFailed));
+    assert_eq!(rt; get(&mut disk, 100)?[17], 9);
+    assert_eq!(rt; get(&mut disk, 16)?[17], 0);
+    assert_eq!(rt; disk.calls(), [100, 0, 16, 100, 16].as_slice());
     Ok(())
 }
 
@@ -120,37 +126,61 @@ fn kind(block: &Block, old: u8, new: u8) -> usize
     }
 }
 
-#[test]
-fn a_crash_leaves_each_kind_of_block(rt: HostRuntime) -> Result<(), Fail> {
-    // The sixth call, a write of the superblock, fails.
-    let mut disk = MemoryDisk::new(rt.alloc(), 4096, 8, &[6])?;
-    assert_eq!(rt; commit(&mut disk, 1), Ok(()));
-    assert_eq!(rt; put(&mut disk, 100, 2), Ok(()));
-    assert_eq!(rt; put(&mut disk, 101, 3), Ok(()));
-    assert_eq!(rt; put(&mut disk, 16, 2), Err(DiskFailed));
-
+/// Which kinds of block 100 and of block 16 forty crashes leave.
+fn kinds(
+    alloc: Global,
+    disk: &MemoryDisk,
+    old: u8,
+    new: u8,
+) -> Result<([bool; 4], [bool; 4]), Fail> {
     let mut blocks = [false; 4];
     let mut supers = [false; 4];
     for pick in 0..40 {
-        let mut left = disk.crash(rt.alloc(), pick)?;
-        blocks[kind(&get(&mut left, 100)?, 1, 2)] = true;
-        supers[kind(&get(&mut left, 16)?, 1, 2)] = true;
-        assert_eq!(rt; get(&mut left, 99)?[0], 0);
+        let mut left = disk.crash(alloc, pick)?;
+        blocks[kind(&get(&mut left, 100)?, old, new)] = true;
+        supers[kind(&get(&mut left, 16)?, old, new)] = true;
     }
+    Ok((blocks, supers))
+}
+
+#[test]
+fn a_crash_leaves_what_it_may(rt: HostRuntime) -> Result<(), Fail> {
+    // The fifth call, a write of the superblock, fails.
+    let mut disk = MemoryDisk::new(rt.alloc(), 4096, 8, &[5])?;
+    assert_eq!(rt; commit(&mut disk, 1), Ok(()));
+    let (blocks, supers) = kinds(rt.alloc(), &disk, 1, 2)?;
+    assert_eq!(rt; blocks, [true, false, false, false]);
+    assert_eq!(rt; supers, [true, false, false, false]);
+
+    assert_eq!(rt; put(&mut disk, 100, 2), Ok(()));
+    assert_eq!(rt; put(&mut disk, 16, 2), Err(DiskFailed));
+    let (blocks, supers) = kinds(rt.alloc(), &disk, 1, 2)?;
     assert_eq!(rt; blocks, [true, true, true, true]);
     assert_eq!(rt; supers, [true, true, false, false]);
     Ok(())
 }
 
 #[test]
-fn a_crash_keeps_what_was_committed(rt: HostRuntime) -> Result<(), Fail> {
-    let mut disk = MemoryDisk::new(rt.alloc(), 4096, 3, &[])?;
-    assert_eq!(rt; commit(&mut disk, 5), Ok(()));
-    for pick in 0..8 {
-        let mut left = disk.crash(rt.alloc(), pick)?;
-        assert_eq!(rt; kind(&get(&mut left, 100)?, 5, 0), 0);
-        assert_eq!(rt; kind(&get(&mut left, 16)?, 5, 0), 0);
-        assert_eq!(rt; commit(&mut left, 6), Ok(()));
-    }
+fn a_failed_flush_loses_what_was_pending(rt: HostRuntime) -> Result<(), Fail> {
+    // The sixth call, the second flush, fails: reads count.
+    let mut disk = MemoryDisk::new(rt.alloc(), 4096, 9, &[6])?;
+    assert_eq!(rt; commit(&mut disk, 1), Ok(()));
+    assert_eq!(rt; put(&mut disk, 100, 2), Ok(()));
+    assert_eq!(rt; get(&mut disk, 100)?[0], 2);
+    assert_eq!(rt; disk.flush(), Err(DiskFailed));
+    assert_eq!(rt; get(&mut disk, 100)?[0], 1);
+
+    // The next flush settles nothing of it.
+    assert_eq!(rt; disk.flush(), Ok(()));
+    assert_eq!(rt; get(&mut disk, 100)?[0], 1);
+    assert_eq!(rt; kinds(rt.alloc(), &disk, 1, 2)?.0, [true, true, true, true]);
+
+    // Written again, it is durable.
+    assert_eq!(rt; commit(&mut disk, 2), Ok(()));
+    assert_eq!(rt; get(&mut disk, 100)?[0], 2);
+    assert_eq!(rt;
+        kinds(rt.alloc(), &disk, 1, 2)?.0,
+        [false, true, false, false]
+    );
     Ok(())
 }

@@ -8,21 +8,16 @@ ghost use Rattle.flat_sub.specs.View.{sub_view, IsWellKept};
 ghost use Rattle.flat_check.specs.Parts.{reaches_root, IsLinked, IsRightInode};
 
 use crate::ways::{ROOT, reaches_root};
+use blk_base::limits::{GREATEST_NUMBER, MOST_LINKS};
 use flat_model::Kind;
 use flat_record::Inode;
 use flat_sub::FlatSub;
-
-/// The greatest inode number (own).
-const GREATEST_INO: u64 = 0x4000_0000_0000_0001;
-
-/// The most names of a file or symlink (own).
-const MOST_LINKS: usize = 65535;
 
 /// Whether a number is one that an inode may have ("Objectids" of the on-disk format, own limit).
 fn is_ino_number(ino: u64) -> bool
     ensures { IsTrue result ↔ IsInoNumber ino }
 {
-    ino >= ROOT && ino <= GREATEST_INO
+    ino >= ROOT && ino <= GREATEST_NUMBER
 }
 
 /// Whether so many names are right for an inode that isn't the root directory: one for a directory, 1 to 65,535 for a file

@@ -4,12 +4,12 @@ ghost use Rattle.flat_sub.specs.Lists.{share_of};
 ghost use Rattle.flat_sub.specs.View.{name_view, sub_view, IsWellKept};
 ghost use Rattle.flat_check.specs.Parts.{HasItemsThatFit};
 
-use blk_base::{extref_hash, name_hash};
+use blk_base::{extref_hash, format, name_hash};
 use flat_model::NameAt;
 use flat_sub::{FlatSub, Item};
 
 /// The most bytes of one item in a leaf ("Header" of the on-disk format).
-const MOST_ITEM_BYTES: u64 = 3970;
+const MOST_ITEM_BYTES: u64 = format::MOST_ITEM_BYTES as u64;
 
 /// Whether the entries of an item take at most as many bytes as a leaf holds.
 fn fits(sub: &FlatSub, item: Item) -> bool

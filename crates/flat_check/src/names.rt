@@ -6,11 +6,9 @@ ghost use Rattle.flat_check.specs.Parts.{IsPlaced, IsAlone, HasItemsThatFit, IsR
 
 use crate::items::has_items_that_fit;
 use crate::ways::ROOT;
+use blk_base::limits::GREATEST_NUMBER;
 use flat_model::NameAt;
 use flat_sub::FlatSub;
-
-/// The greatest index (own).
-const GREATEST_INDEX: u64 = 0x4000_0000_0000_0001;
 
 /// How many of these names stand in the slot of a name, which is its directory and its bytes.
 fn count_in_slot(names: &Vec<NameAt>, slot: &NameAt) -> usize
@@ -40,7 +38,7 @@ fn is_placed(sub: &FlatSub, name: &NameAt) -> bool
     let _name = name.name.as_bytes();
     name.ino.0 != ROOT
         && name.index >= 2
-        && name.index <= GREATEST_INDEX
+        && name.index <= GREATEST_NUMBER
         && sub.is_dir(name.dir.0)
         && sub.kind(name.ino.0).is_some()
 }

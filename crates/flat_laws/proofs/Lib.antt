@@ -2,3 +2,9 @@ pub mod Refusals
 pub mod Crowds
 pub mod Choices
 pub mod Shown
+pub mod Changes
+pub mod Advances
+pub mod Answered
+pub mod Reindexed
+pub mod Alike
+pub mod AlikeRuns

@@ -2,11 +2,11 @@
 ghost use Rattle.std.specs.Prelude.{◌≡◌, ◌<◌, ◌≤◌, ◌+◌, ◌-◌, ◌^◌, ◌↔◌, ℕ, List, None, All, length, min, sum_by, option_copied, IsTrue, IfOk};
 ghost use Rattle.flat_record.specs.AttributeShares.{is_other, share_of, KeepsAttribute};
 
-use blk_base::{Name, OutOfMemory, Text, name_hash};
+use blk_base::{Name, OutOfMemory, Text, format, name_hash};
 use std::alloc::Global;
 
 /// The most bytes of one item in a leaf ("Header" of the on-disk format).
-const MOST_ITEM_BYTES: u64 = 3970;
+const MOST_ITEM_BYTES: u64 = format::MOST_ITEM_BYTES as u64;
 
 /// Whether a name is another than this, where one is given.
 fn is_other(name: &Name, without: Option<&Name>) -> bool

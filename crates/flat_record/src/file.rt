@@ -9,12 +9,10 @@ use crate::block::FileBlock;
 use crate::block_limits::{are_same, copy_blocks, do_keep_limits};
 use crate::blocks::{cut_block_at, keep_below, put_blocks, read_block, written_blocks};
 use crate::table::put_entry;
+use blk_base::limits::MOST_FILE_BYTES;
 use blk_base::{Block, OutOfMemory, Text};
 use std::alloc::Global;
 use std::marker::Model;
-
-/// The most bytes of a file (own).
-const MOST_FILE_BYTES: u64 = 16_777_216;
 
 /// A file: its size in bytes, and the blocks that are no holes, by their numbers in rising order.
 #[derive(Drop)]

@@ -6,15 +6,15 @@ ghost use Rattle.flat_sub.specs.Lists.{list_view, IsList, share_of};
 ghost use Rattle.flat_model.specs.Operations.{has_room_near, is_crowded};
 
 use crate::sub::{FlatSub, add_among};
-use blk_base::{OutOfMemory, extref_hash, name_hash};
+use blk_base::{OutOfMemory, extref_hash, format, limits, name_hash};
 use flat_model::NameAt;
 use std::alloc::Global;
 
 /// The most bytes of one item in a leaf ("Header" of the on-disk format).
-const MOST_ITEM_BYTES: u64 = 3970;
+const MOST_ITEM_BYTES: u64 = format::MOST_ITEM_BYTES as u64;
 
 /// The most bytes of an INODE_REF item to which a name is added (own).
-const MOST_REF_BYTES: u64 = 2000;
+const MOST_REF_BYTES: u64 = limits::MOST_REF_BYTES as u64;
 
 /// Names in order, with their marks beside them.
 #[derive(Drop)]

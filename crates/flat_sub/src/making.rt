@@ -10,16 +10,11 @@ ghost use Rattle.flat_model.specs.Names.{FlatName};
 use crate::list::NameList;
 use crate::sub::{FlatSub, last_index_of};
 use crate::walk::End;
+use blk_base::limits::{MOST_LINKS, SPENT_NUMBER};
 use blk_base::{Ino, Name, OutOfMemory};
 use flat_model::{Answer, NameAt, Path};
 use flat_record::{Inode, put_entry};
 use std::alloc::Global;
-
-/// A number from which on a subvolume gives no inode number and no index more (own).
-const SPENT: u64 = 0x4000_0000_0000_0000;
-
-/// The most names of a file or symlink (own).
-const MOST_LINKS: usize = 65535;
 
 /// A copy of a path's last name.
 pub(crate) fn last_name(alloc: Global, path: &Path) -> Result<Name, OutOfMemory>
@@ -33,16 +28,16 @@ pub(crate) fn last_name(alloc: Global, path: &Path) -> Result<Name, OutOfMemory>
 impl FlatSub {
     /// Whether the subvolume has had an inode number of 2^62 or above.
     fn inos_are_spent(&self) -> bool
-        ensures { result ≡ inos_are_spent (sub_view self.now).marks }
+        ensures { result ≡ inos_are_spent (sub_view self.now).numbers }
     {
-        self.last_ino >= SPENT
+        self.last_ino >= SPENT_NUMBER
     }
 
     /// Whether the subvolume has had an index of 2^62 or above.
     pub(crate) fn indexes_are_spent(&self) -> bool
-        ensures { result ≡ indexes_are_spent (sub_view self.now).marks }
+        ensures { result ≡ indexes_are_spent (sub_view self.now).numbers }
     {
-        self.last_index >= SPENT
+        self.last_index >= SPENT_NUMBER
     }
 
     /// Has these names in place of its own, and counts an index as one that a directory and the subvolume have had.

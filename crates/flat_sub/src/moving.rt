@@ -5,11 +5,11 @@ ghost use Rattle.std.specs.Ordering.{nat_cmp};
 ghost use Rattle.flat_model.specs.Names.{FlatName, remove_name, links_of};
 ghost use Rattle.flat_model.specs.Volume.{is_dir_there, is_other_there};
 ghost use Rattle.flat_model.specs.Walk.{WalkEnd, walk, is_absent, is_blocked, is_dirless, is_root, is_one_inode, is_below, dir_of, bytes_of, ino_at, record_at};
-ghost use Rattle.flat_model.specs.Operations.{rename, exchange, first_answer, has_entries, has_room_near, names_without, new_name};
+ghost use Rattle.flat_model.specs.Operations.{rename, exchange, first_answer, has_entries, has_room_near, names_without, new_name, rename_tests, exchange_tests};
 ghost use Rattle.flat_sub.specs.View.{name_view, sub_view, IsWellKept};
 ghost use Rattle.flat_sub.specs.Lists.{list_view, IsList, last_of};
 ghost use Rattle.flat_sub.specs.Ends.{IsEnd, ComesTo, with_sub};
-ghost use Rattle.flat_sub.specs.Moves.{rename_tests, exchange_tests, leads_there, lost_inode, without_lost, noted_index};
+ghost use Rattle.flat_sub.specs.Moves.{leads_there, lost_inode, without_lost, noted_index};
 
 use crate::list::NameList;
 use crate::making::last_name;
@@ -355,8 +355,8 @@ impl FlatSub {
         None
     }
 
-    /// Gives what is at the end of one walk the slot at the end of the other in place of its own, once no row before the
-    /// one on crowded items refused it.
+    /// Moves the name at the end of one walk to the end of the other; a name that stood there goes. No row before the one
+    /// on crowded items refused it.
     fn move_name(
         &mut self,
         alloc: Global,
@@ -389,7 +389,7 @@ impl FlatSub {
         Ok(Answer::Plain)
     }
 
-    /// Gives what is at one place the other in place of it; what was there loses that name.
+    /// Moves the name at the first place to the second; a name that stood there goes.
     pub fn rename(&mut self, alloc: Global, old: &Path, new: &Path) -> Result<Answer, OutOfMemory>
         requires { IsWellKept self.old }
         ensures done { IfOk result (ComesTo (rename (sub_view self.old) old.now new.now (self.old.last_index + 1)) (sub_view self.new)) }
@@ -446,7 +446,7 @@ impl FlatSub {
         Ok(Answer::Plain)
     }
 
-    /// Swaps what is at two places.
+    /// Swaps what the names at two places lead to.
     pub fn exchange(&mut self, alloc: Global, one: &Path, two: &Path) -> Result<Answer, OutOfMemory>
         requires { IsWellKept self.old }
         ensures done { IfOk result (ComesTo (exchange (sub_view self.old) one.now two.now (self.old.last_index + 1) (self.old.last_index + 2)) (sub_view self.new)) }

@@ -1,16 +1,11 @@
 //! What volumes tell, and volumes that are no longer coherent.
 use crate::FlatVolume;
 use crate::script::{is_said, name_of, operation};
+use blk_base::format::{FIRST_SUB, SECOND_SUB};
 use blk_base::{Ino, SubId, Text};
 use flat_model::{Kind, NameAt, NameView};
 use std::alloc::Global;
 use std::test::Fail;
-
-/// The first subvolume.
-const FIRST: SubId = SubId(5);
-
-/// The second subvolume.
-const SECOND: SubId = SubId(256);
 
 /// Whether an operation on a volume gives the answer of these words.
 fn gives(alloc: Global, volume: &mut FlatVolume, words: &str, want: &str) -> Result<bool, Fail> {
@@ -31,14 +26,14 @@ fn built(
 ) -> Result<FlatVolume, Fail> {
     let mut volume = FlatVolume::empty(alloc, 1)?;
     for (ino, kind) in inodes {
-        if !volume.has_sub(FIRST) {
+        if !volume.has_sub(FIRST_SUB) {
             return Err(Fail::from("no subvolume"));
         }
         let target = Text::new(alloc, b"t")?;
-        volume.put_inode(alloc, FIRST, Ino(*ino), *kind, 0, target)?;
+        volume.put_inode(alloc, FIRST_SUB, Ino(*ino), *kind, 0, target)?;
     }
     for (dir, index, name, ino) in names {
-        if !volume.has_sub(FIRST) {
+        if !volume.has_sub(FIRST_SUB) {
             return Err(Fail::from("no subvolume"));
         }
         let at = NameAt {
@@ -47,7 +42,7 @@ fn built(
             name: name_of(alloc, name)?,
             ino: Ino(*ino),
         };
-        volume.put_name(alloc, FIRST, at, true)?;
+        volume.put_name(alloc, FIRST_SUB, at, true)?;
     }
     Ok(volume)
 }
@@ -60,23 +55,23 @@ fn two_volumes_are_told_apart(rt: HostRuntime) -> Result<(), Fail> {
     assert_eq!(rt; one.subs(), 2);
     assert!(rt; gives(alloc, &mut one, "create 256:/a", "ok 257")?);
     assert!(rt; gives(alloc, &mut two, "create 256:/a", "ok 257")?);
-    assert!(rt; one.same_record(&two, SECOND, Ino(257)));
-    assert!(rt; !one.same_record(&two, SECOND, Ino(258)));
-    assert!(rt; !one.same_record(&two, FIRST, Ino(257)));
+    assert!(rt; one.same_record(&two, SECOND_SUB, Ino(257)));
+    assert!(rt; !one.same_record(&two, SECOND_SUB, Ino(258)));
+    assert!(rt; !one.same_record(&two, FIRST_SUB, Ino(257)));
     assert!(rt; !one.same_record(&two, SubId(257), Ino(257)));
-    assert!(rt; one.kind_of(SECOND, Ino(257)) == Some(Kind::File));
-    one.put_block(alloc, SECOND, Ino(257), 3, &[7; 4096])?;
-    assert!(rt; !one.same_record(&two, SECOND, Ino(257)));
+    assert!(rt; one.kind_of(SECOND_SUB, Ino(257)) == Some(Kind::File));
+    one.put_block(alloc, SECOND_SUB, Ino(257), 3, &[7; 4096])?;
+    assert!(rt; !one.same_record(&two, SECOND_SUB, Ino(257)));
     assert!(rt; !one.coherent());
     assert!(rt; gives(alloc, &mut one, "truncate 256:/a 16384", "ok")?);
     assert!(rt; one.coherent());
     assert!(rt; gives(alloc, &mut one, "read 256:/a 12287 3", "ok *1:0+*2:7")?);
-    assert!(rt; one.kind_of(SECOND, Ino(256)) == Some(Kind::Dir));
+    assert!(rt; one.kind_of(SECOND_SUB, Ino(256)) == Some(Kind::Dir));
     let (name, value) = (name_of(alloc, "user.k")?, Text::new(alloc, b"v")?);
-    one.put_attr(alloc, SECOND, Ino(256), name, value)?;
+    one.put_attr(alloc, SECOND_SUB, Ino(256), name, value)?;
     assert!(rt; gives(alloc, &mut one, "getattr 256:/ user.k", "ok v")?);
-    assert!(rt; !one.same_record(&two, SECOND, Ino(256)));
-    assert!(rt; one.same_record(&two, FIRST, Ino(256)));
+    assert!(rt; !one.same_record(&two, SECOND_SUB, Ino(256)));
+    assert!(rt; one.same_record(&two, FIRST_SUB, Ino(256)));
     Ok(())
 }
 
@@ -86,10 +81,10 @@ fn a_subvolume_is_seen(rt: HostRuntime) -> Result<(), Fail> {
     let inodes = [(257, Kind::Dir), (258, Kind::File)];
     let names = [(256, 2, "d", 257), (257, 3, "x", 258), (256, 4, "y", 258)];
     let volume = built(alloc, &inodes, &names)?;
-    assert!(rt; volume.has_sub(FIRST));
-    let inos = volume.inodes(alloc, FIRST)?;
+    assert!(rt; volume.has_sub(FIRST_SUB));
+    let inos = volume.inodes(alloc, FIRST_SUB)?;
     assert!(rt; inos.as_slice() == [Ino(256), Ino(257), Ino(258)].as_slice());
-    let view = volume.view(FIRST);
+    let view = volume.view(FIRST_SUB);
     assert!(rt; view.slot(Ino(257), b"x") == Some(Ino(258)));
     assert!(rt; view.slot(Ino(256), b"x") == None);
     assert_eq!(rt; view.names_of(alloc, Ino(258))?.len(), 2);

@@ -1,1 +1,4 @@
+pub mod Given
+pub mod PrintedBytes
 pub mod Sinks
+pub mod Texts

@@ -1,2 +1,4 @@
 pub mod Edge
 pub mod Memory
+pub mod Printed
+pub mod Reading

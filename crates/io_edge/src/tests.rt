@@ -1,6 +1,7 @@
 ghost use Rattle.std.specs.Prelude.{◌<◌, length};
 
 use super::*;
+use std::alloc::Global;
 use std::test::Fail;
 
 fn next<S: Source>(source: &mut S, into: &mut [u8]) -> Result<usize, SourceFailed>
@@ -51,5 +52,29 @@ fn texts_are_put_whole(rt: HostRuntime) -> Result<(), Fail> {
     assert_eq!(rt; put(&mut sink, b""), Ok(()));
     assert_eq!(rt; put_all(&mut sink, &["c", "de", "f"]), Err(SinkFailed));
     assert_eq!(rt; sink.bytes(), b"abc".as_slice());
+    Ok(())
+}
+
+/// How many bytes a source of so many zeros gives, or the fault, where its read of this number fails.
+fn read(alloc: Global, count: usize, fails: u64) -> Result<Result<usize, ReadFault>, Fail> {
+    let bytes = vec![in alloc; 0u8; count]?;
+    let mut from = MemorySource::new(alloc, &bytes, &[fails])?;
+    Ok(match read_all(alloc, &mut from) {
+        Ok(bytes) => Ok(bytes.len()),
+        Err(fault) => Err(fault),
+    })
+}
+
+#[test]
+fn a_source_is_read_to_its_end(rt: HostRuntime) -> Result<(), Fail> {
+    let rows = [
+        (7, 0, Ok(7)),
+        (7, 2, Err(ReadFault::Failed { taken: 7 })),
+        (16_777_216, 0, Ok(16_777_216)),
+        (16_777_217, 0, Err(ReadFault::Failed { taken: 16_777_216 })),
+    ];
+    for (count, fails, wanted) in rows {
+        assert_eq!(rt; read(rt.alloc(), count, fails)?, wanted);
+    }
     Ok(())
 }

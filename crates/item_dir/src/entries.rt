@@ -10,17 +10,9 @@ ghost use Rattle.item_dir.specs.Entries.{entries_in};
 ghost use Rattle.item_dir.specs.Entry.{entry_view};
 
 use crate::entry::{Entry, first_entry};
+use blk_base::format::{ATTR_ENTRY, DIR_ENTRY, DIR_INDEX, FILE_ENTRY, LINK_ENTRY, XATTR_ITEM};
 use blk_base::{ItemFault, is_name};
 use std::marker::Model;
-
-/// The type of the key of a DIR_INDEX, which has one entry.
-const DIR_INDEX: u8 = 96;
-
-/// The type of the key of attributes.
-const XATTR_ITEM: u8 = 24;
-
-/// The type of an entry that is an attribute.
-const ATTRIBUTE: u8 = 8;
 
 /// The entries of an item, in their order ("DIR_ITEM", "DIR_INDEX" and "XATTR_ITEM" of the on-disk format): an
 /// iterator over them.
@@ -167,16 +159,16 @@ fn is_of_kind(kind: u8, entry: &Entry<'_>) -> bool
     ensures { result ≡ is_entry_kind kind (entry_view entry.now) }
 {
     if kind == XATTR_ITEM {
-        return entry.kind == ATTRIBUTE;
+        return entry.kind == ATTR_ENTRY;
     }
     is_dir_kind(entry.kind) && entry.value.is_empty()
 }
 
 /// A file, a directory or a symlink.
 fn is_dir_kind(kind: u8) -> bool
-    ensures { result ≡ ((kind == 1) || (kind == 2) || (kind == 7)) }
+    ensures { result ≡ ((kind == FILE_ENTRY) || (kind == DIR_ENTRY) || (kind == LINK_ENTRY)) }
 {
-    kind == 1 || kind == 2 || kind == 7
+    kind == FILE_ENTRY || kind == DIR_ENTRY || kind == LINK_ENTRY
 }
 
 /// Whether the bytes may be the name of a file or an attribute.

@@ -1,9 +1,8 @@
-ghost use Rattle.std.specs.Prelude.{◌≡◌, ◌<◌, length};
-ghost use Rattle.blk_base.specs.Bytes.{field};
+ghost use Rattle.std.specs.Prelude.{◌≡◌};
 ghost use Rattle.blk_base.specs.Entries.{entry_from};
 ghost use Rattle.item_dir.specs.Entry.{first_entry_view};
 
-use blk_base::{Key, u16_at, u64_at};
+use blk_base::{Key, u8_at, u16_at, u64_at};
 
 /// An entry of a directory or an attribute. Name and value are parts of the item's bytes ("DIR_ITEM" of the on-disk
 /// format).
@@ -46,13 +45,4 @@ pub fn first_entry<'a>(bytes: &'a [u8]) -> Option<(Entry<'a>, &'a [u8])>
         value: &bytes[name_end..end],
     };
     Some((entry, &bytes[end..]))
-}
-
-/// The byte at a place, as a number of one byte.
-#[tactic(auto, unfolding(blk_base::specs::Bytes::field))]
-fn u8_at(bytes: &[u8], at: usize) -> u8
-    requires { at < length bytes.now }
-    ensures { result ≡ field 1 bytes.now at }
-{
-    bytes[at]
 }

@@ -1,11 +1,12 @@
 ghost use Rattle.std.specs.Prelude.{◌≡◌, ◌≢◌, ◌+◌, ◌<◌, ◌^◌, ◌⊎◌, [], length};
-ghost use Rattle.blk_base.specs.Bytes.{number_bytes, with_field};
+ghost use Rattle.blk_base.specs.Bytes.{number_bytes};
 ghost use Rattle.blk_base.specs.Entries.{attr_entry, dir_entry, entry_bytes, file_entry, link_entry};
 ghost use Rattle.blk_base.specs.Name.{IsName};
 ghost use Rattle.item_dir.specs.Entry.{entry_view};
 
 use crate::entry::Entry;
-use blk_base::{put_bytes, put_u16, put_u64};
+use blk_base::format::RANGE_SIZE;
+use blk_base::{put_bytes, put_u8, put_u16, put_u64};
 
 /// Writes an entry of a directory or an attribute. `into` has 30 bytes more than the name and the value together.
 pub fn put_entry(entry: &Entry<'_>, into: &mut [u8])
@@ -30,16 +31,8 @@ pub fn put_entry(entry: &Entry<'_>, into: &mut [u8])
 
 /// Writes the last index of a range of a log.
 pub fn put_range(end: u64, into: &mut [u8])
-    requires { length into.old ≡ 8 }
+    requires { length into.old ≡ RANGE_SIZE }
     ensures { into.new ≡ number_bytes 8 end }
 {
     put_u64(into, 0, end);
-}
-
-/// Writes a byte at a place, as a number of one byte.
-fn put_u8(bytes: &mut [u8], at: usize, value: u8)
-    requires { at < length bytes.old }
-    ensures { bytes.new ≡ with_field 1 bytes.old at value }
-{
-    put_bytes(bytes, at, &[value]);
 }

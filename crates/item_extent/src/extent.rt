@@ -1,12 +1,10 @@
-ghost use Rattle.std.specs.Prelude.{◌≡◌, ◌<◌, ◌≤◌, ◌+◌, false, length};
-ghost use Rattle.blk_base.specs.Bytes.{field};
+ghost use Rattle.std.specs.Prelude.{◌≡◌, ◌≤◌, false, length};
 ghost use Rattle.blk_base.specs.Extents.{extent_in, extent_of, extent_type, is_hole as hole_test, is_inline as inline_test, is_regular as regular_test, is_short as short_test, log_extent_of};
 ghost use Rattle.item_extent.specs.View.{answer_view};
 
-use blk_base::{Addr, ItemFault, Key, u16_at, u64_at};
-
-/// The greatest length of a file, in bytes.
-const FILE_LIMIT: u64 = 16_777_216;
+use blk_base::format::BLOCK_SIZE;
+use blk_base::limits::MOST_FILE_BYTES;
+use blk_base::{Addr, ItemFault, Key, u8_at, u16_at, u64_at};
 
 /// What an extent of a file holds ("EXTENT_DATA" of the on-disk format).
 #[derive(Clone, Copy, Debug, PartialEq, Eq)]
@@ -101,9 +99,9 @@ fn is_hole(key: &Key, bytes: &[u8]) -> bool
         && u64_at(bytes, 29) == 0
         && u64_at(bytes, 37) == 0
         && u64_at(bytes, 8) == length
-        && length % 4096 == 0
+        && length % BLOCK_SIZE == 0
         && 0 < length
-        && key.offset % 4096 == 0
+        && key.offset % BLOCK_SIZE == 0
 }
 
 /// Whether the numbers of a run of blocks are right: 1 to 4096 whole blocks, from the run's begin on.
@@ -112,20 +110,11 @@ fn is_regular(key: &Key, bytes: &[u8]) -> bool
     ensures { result ≡ regular_test key.now bytes.now }
 {
     let length = u64_at(bytes, 45);
-    length % 4096 == 0
-        && 4096 <= length
-        && length <= FILE_LIMIT
+    length % BLOCK_SIZE == 0
+        && BLOCK_SIZE <= length
+        && length <= MOST_FILE_BYTES
         && u64_at(bytes, 8) == length
         && u64_at(bytes, 29) == length
         && u64_at(bytes, 37) == 0
-        && key.offset % 4096 == 0
-}
-
-/// The byte at a place, as a number of one byte.
-#[tactic(auto, unfolding(blk_base::specs::Bytes::field))]
-fn u8_at(bytes: &[u8], at: usize) -> u8
-    requires { at < length bytes.now }
-    ensures { result ≡ field 1 bytes.now at }
-{
-    bytes[at]
+        && key.offset % BLOCK_SIZE == 0
 }

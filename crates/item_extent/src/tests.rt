@@ -1,5 +1,5 @@
 use crate::{Extent, ItemFault, put_hole, put_inline, put_regular};
-use blk_base::{Addr, Key};
+use blk_base::{Addr, Key, put_u64};
 
 /// The key of an extent of file 257 at a place of the file, in bytes.
 fn key_at(offset: u64) -> Key {
@@ -58,6 +58,14 @@ fn changed(
     Extent::open(&key_at(offset), &bytes[..length % 80]).err()
 }
 
+/// The first fault of a run that is changed to so many bytes.
+fn run_of(bytes: &mut [u8; 80], length: u64) -> Option<ItemFault> {
+    put_u64(bytes, 8, length);
+    put_u64(bytes, 29, length);
+    put_u64(bytes, 45, length);
+    Extent::open(&key_at(0), &bytes[..53]).err()
+}
+
 #[test]
 fn changed_items(rt: HostRuntime) {
     let size = Some(ItemFault::Size);
@@ -97,5 +105,17 @@ fn changed_items(rt: HostRuntime) {
     ] {
         let fault = changed(&mut run_item(), offset, length, at, value);
         assert_eq!(rt; fault, want, "at {offset}: {length} bytes, {value} at {at}");
+    }
+    for (length, want) in [
+        (4096, None),
+        (16_777_216, None),
+        (16_781_312, align),
+        (0, align),
+    ] {
+        assert_eq!(rt;
+            run_of(&mut run_item(), length),
+            want,
+            "a run of {length} bytes"
+        );
     }
 }

@@ -1,6 +1,7 @@
 ghost use Rattle.std.specs.Prelude.{◌≡◌, ◌<◌, ◌≤◌, ◌+◌, ◌%◌, length};
 ghost use Rattle.blk_base.specs.Extents.{IsRun, hole_bytes, inline_bytes, regular_bytes};
 
+use blk_base::format::BLOCK_SIZE;
 use blk_base::{Addr, put_bytes, put_u64};
 
 /// Writes an extent with its data in the item. `into` has 21 bytes more than the data, which is at least one byte.
@@ -33,7 +34,7 @@ pub fn put_regular(generation: u64, at: Addr, size: u64, into: &mut [u8])
 
 /// Writes a hole of a log, of so many bytes: whole blocks, at least one.
 pub fn put_hole(generation: u64, size: u64, into: &mut [u8])
-    requires whole { size % 4096 ≡ 0 }
+    requires whole { size % BLOCK_SIZE ≡ 0 }
     requires some { 0 < size }
     requires room { length into.old ≡ 53 }
     ensures { into.new ≡ hole_bytes generation size }

@@ -2,14 +2,8 @@ ghost use Rattle.std.specs.Prelude.{◌≡◌, ◌≤◌, length};
 ghost use Rattle.blk_base.specs.Items.{inode_bytes, inode_of};
 ghost use Rattle.item_inode.specs.Inode.{answer_view, inode_view};
 
+use blk_base::format::{DIR_MODE, FILE_MODE, INODE_ITEM_SIZE, LINK_MODE};
 use blk_base::{ItemFault, put_bytes, put_u32, put_u64, u32_at, u64_at};
-
-/// The modes of a file, a directory and a symlink.
-const FILE_MODE: u32 = 33188;
-
-const DIR_MODE: u32 = 16877;
-
-const LINK_MODE: u32 = 41471;
 
 /// An inode item ("INODE_ITEM" of the on-disk format; the fields that aren't kept here are zero).
 #[derive(Clone, Copy, Debug, PartialEq, Eq)]
@@ -30,7 +24,7 @@ pub struct InodeItem {
 
 impl InodeItem {
     /// Writes the item; what isn't kept becomes zero.
-    pub fn encode(&self, into: &mut [u8; 160])
+    pub fn encode(&self, into: &mut [u8; INODE_ITEM_SIZE])
         ensures { into.new ≡ inode_bytes (inode_view self.now) }
     {
         put_u64(into, 0, self.generation);
@@ -49,7 +43,7 @@ impl InodeItem {
     pub fn decode(bytes: &[u8]) -> Result<InodeItem, ItemFault>
         ensures { answer_view result ≡ inode_of bytes.now }
     {
-        if bytes.len() != 160 {
+        if bytes.len() != INODE_ITEM_SIZE {
             return Err(ItemFault::Size);
         }
         let mode = u32_at(bytes, 52);

@@ -7,11 +7,9 @@ ghost use Rattle.blk_base.specs.Entries.{all_entries, dots, is_dots_place as dot
 ghost use Rattle.item_inode.specs.Names.{ref_view, first_ref_view};
 
 use crate::names::is_plain_name;
+use blk_base::format::{DOTS, FIRST_FREE, INODE_REF};
 use blk_base::{ItemFault, Key, u16_at, u64_at};
 use std::marker::Model;
-
-/// The type of the key of an INODE_REF.
-const INODE_REF: u8 = 12;
 
 /// The names of an inode in one directory, in their order ("INODE_REF" of the on-disk format): an iterator over the
 /// directory's index of each name, and the name, which is a part of the item's bytes.
@@ -118,12 +116,12 @@ fn is_ref_name(key: &Key, name: &[u8]) -> bool
 fn is_dots_place(key: &Key) -> bool
     ensures { result ≡ dots_place_test key.now }
 {
-    key.objectid == 256 && key.kind == INODE_REF && key.offset == 256
+    key.objectid == FIRST_FREE && key.kind == INODE_REF && key.offset == FIRST_FREE
 }
 
 /// The name `..`.
 fn is_dots(name: &[u8]) -> bool
     ensures { result ≡ bytes_eq name.now dots }
 {
-    name == b"..".as_slice()
+    name == DOTS
 }

@@ -47,9 +47,18 @@ fn inode_as_bytes(rt: HostRuntime) {
     };
     let mut bytes = [255; 160];
     item.encode(&mut bytes);
-    assert_eq!(rt; &bytes[..8], b"\x01\0\0\0\0\0\0\0".as_slice());
-    assert_eq!(rt; &bytes[24..32], b"\0\x10\0\0\0\0\0\0".as_slice());
-    assert_eq!(rt; &bytes[52..60], b"\xa4\x81\0\0\0\0\0\0".as_slice());
+    for (at, want) in [
+        (0, b"\x01\0\0\0\0\0\0\0"),
+        (8, b"\x02\0\0\0\0\0\0\0"),
+        (16, b"\x03\0\0\0\0\0\0\0"),
+        (24, b"\0\x10\0\0\0\0\0\0"),
+        (32, b"\0\0\0\0\0\0\0\0"),
+        (40, b"\x01\0\0\0\0\0\0\0"),
+        (52, b"\xa4\x81\0\0\0\0\0\0"),
+    ] {
+        assert!(rt; at <= 152);
+        assert_eq!(rt; &bytes[at..at + 8], want.as_slice(), "at {at}");
+    }
     assert_eq!(rt; InodeItem::decode(&bytes), Ok(item));
 }
 

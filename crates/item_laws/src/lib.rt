@@ -4,6 +4,7 @@
 
 mod directories;
 mod extents;
+mod faults;
 mod names;
 
 pub use directories::{entries_are_spelled, entries_read_back, entry_reads_back};
@@ -11,6 +12,7 @@ pub use extents::{
     extents_are_said, hole_reads_back, hole_refused, inline_reads_back, log_extents_are_said,
     log_reads_extents, regular_reads_back,
 };
+pub use faults::{faults_in_logs, items_have_faults, log_items_have_faults};
 pub use names::{
     extref_reads_back, extrefs_are_spelled, extrefs_read_back, ref_reads_back, refs_are_spelled,
     refs_read_back,

@@ -4,6 +4,7 @@ ghost use Rattle.leaf_edit.specs.Images.{key_image};
 ghost use Rattle.blk_base.specs.Keys.{KeyFits};
 ghost use Rattle.blk_base.specs.Leaf.{header_at};
 
+use blk_base::format::{BLOCK_SIZE, HEADER_SIZE, ITEM_HEADER_SIZE, MOST_ITEMS};
 use blk_base::{Block, Key, put_bytes, put_u32, put_u64, u32_at};
 use leaf_view::key_at;
 
@@ -18,7 +19,7 @@ pub(crate) struct Header {
 
 /// Writes the 17 bytes of a key at a place ("Key" of the on-disk format).
 pub fn put_key(block: &mut Block, at: usize, key: &Key)
-    requires { at + 17 ≤ 4096 }
+    requires { at + 17 ≤ BLOCK_SIZE }
     ensures written { block.new ≡ with_bytes block.old at (key_image key.now) }
     ensures fits { KeyFits key.now }
 {
@@ -32,11 +33,11 @@ impl Header {
 
     /// The header of item i.
     pub(crate) fn read(block: &Block, i: usize) -> Header
-        requires { i < 159 }
+        requires { i < MOST_ITEMS }
         ensures value { result ≡ header_of block.now i }
         ensures fits { HeaderFits result }
     {
-        let at = 101 + 25 * i;
+        let at = HEADER_SIZE + ITEM_HEADER_SIZE * i;
         Header {
             key: key_at(block, at),
             offset: u32_at(block, at + 17),
@@ -46,11 +47,11 @@ impl Header {
 
     /// Writes the header of item i.
     pub(crate) fn write(&self, block: &mut Block, i: usize)
-        requires { i < 159 }
+        requires { i < MOST_ITEMS }
         ensures written { block.new ≡ with_bytes block.old (header_at i) (header_bytes self.now) }
         ensures fits { HeaderFits self.now }
     {
-        let at = 101 + 25 * i;
+        let at = HEADER_SIZE + ITEM_HEADER_SIZE * i;
         put_key(block, at, &self.key);
         put_u32(block, at + 17, self.offset);
         put_u32(block, at + 21, self.size);

@@ -9,6 +9,8 @@ ghost use Rattle.leaf_edit.specs.declared.leaf_mut.LeafMut.{LeafMut};
 ghost use Rattle.leaf_edit.specs.Editor.{items_of, bytes_of, lender_of};
 ghost use Rattle.leaf_edit.specs.Lending.{with_written};
 
+use blk_base::format::{BLOCK_SIZE, ITEM_HEADER_SIZE, LEAF_BYTES};
+
 /// A packed leaf is a leaf's body. A law about the definitions.
 pub fn packed_leaves_pass()
     ensures { (bytes : List ℕ) (items : List Item) → IsPacked bytes items → leaf_body_of bytes ≡ Ok items }
@@ -16,7 +18,7 @@ pub fn packed_leaves_pass()
 
 /// The items of any leaf fit one that is packed. A law about the definitions.
 pub fn leaves_fit()
-    ensures { (bytes : List ℕ) (items : List Item) → length bytes ≡ 4096 → IsLeafBody bytes items → 25 * length items + data_of items ≤ 3995 }
+    ensures { (bytes : List ℕ) (items : List Item) → length bytes ≡ BLOCK_SIZE → IsLeafBody bytes items → ITEM_HEADER_SIZE * length items + data_of items ≤ LEAF_BYTES }
 {}
 
 /// A key that is put in where a search says that it belongs leaves the keys rising: the condition of `insert`. A law

@@ -11,6 +11,7 @@ use crate::body::{bound_of, count_of, insert_item, put_data, remove_item};
 use crate::lend::part_mut;
 use crate::seal::seal_block;
 use crate::whole::{append_items, clear, pack, room, truncate};
+use blk_base::format::{HEADER_SIZE, ITEM_HEADER_SIZE, MOST_ITEMS};
 use blk_base::{Block, Key, Want};
 use leaf_view::LeafView;
 
@@ -54,7 +55,7 @@ impl<'a> LeafMut<'a> {
     /// The number of items, at most 159.
     pub fn len(&self) -> usize
         ensures value { result ≡ length (items_of self.now) }
-        ensures most { result ≤ 159 }
+        ensures most { result ≤ MOST_ITEMS }
     {
         count_of(self.block)
     }
@@ -76,7 +77,7 @@ impl<'a> LeafMut<'a> {
     /// Puts an item in at a place.
     pub fn insert(&mut self, at: usize, key: Key, bytes: &[u8])
         requires within { at ≤ length (items_of self.old) }
-        requires room { 25 + length bytes.now ≤ room_of (items_of self.old) }
+        requires room { ITEM_HEADER_SIZE + length bytes.now ≤ room_of (items_of self.old) }
         requires order { keys_rise (keys_of (insert (items_of self.old) at (key, bytes.now))) ≡ true }
         ensures items { items_of self.new ≡ insert (items_of self.old) at (key, bytes.now) }
         ensures body { leaf_body_of (bytes_of self.new) ≡ Ok (items_of self.new) }
@@ -114,7 +115,7 @@ impl<'a> LeafMut<'a> {
     {
         let start = bound_of(self.block, at + 1);
         let size = bound_of(self.block, at) - start;
-        part_mut(self.block, 101 + start, size)
+        part_mut(self.block, HEADER_SIZE + start, size)
     }
 
     /// Moves the items from a place on to an empty leaf.
@@ -134,7 +135,7 @@ impl<'a> LeafMut<'a> {
 
     /// Moves all items of another leaf behind the last one, and leaves the other leaf empty.
     pub fn join(&mut self, other: &mut LeafMut<'_>)
-        requires room { 25 * length (items_of other.old) + data_of (items_of other.old) ≤ room_of (items_of self.old) }
+        requires room { ITEM_HEADER_SIZE * length (items_of other.old) + data_of (items_of other.old) ≤ room_of (items_of self.old) }
         requires order { keys_rise (keys_of (items_of self.old ++ items_of other.old)) ≡ true }
         ensures items { items_of self.new ≡ items_of self.old ++ items_of other.old }
         ensures empty { items_of other.new ≡ [] }

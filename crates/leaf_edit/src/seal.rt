@@ -2,11 +2,8 @@ ghost use Rattle.std.specs.Prelude.{◌≡◌, ◌<◌, ◌^◌, length, drop};
 ghost use Rattle.blk_base.specs.Leaf.{HeaderFits, count_of, header_fields, sealed};
 ghost use Rattle.blk_base.specs.Superblock.{with_fields};
 
+use blk_base::format::{HEADER_FLAGS, HEADER_SIZE};
 use blk_base::{Block, Want, crc32c, put_bytes, put_u32, put_u64};
-
-/// Bit 0, for a block that is written, and back reference revision 1 ("Header" of the on-disk format).
-const FLAGS: u64 = 1 + (1 << 56);
-
 /// Writes the fields of the header behind the sum.
 fn write_fields(
     block: &mut Block,
@@ -26,7 +23,7 @@ fn write_fields(
     put_bytes(block, 4, &[0; 28]);
     put_bytes(block, 32, fsid);
     put_u64(block, 48, address);
-    put_u64(block, 56, FLAGS);
+    put_u64(block, 56, HEADER_FLAGS);
     put_bytes(block, 64, &[0; 16]);
     put_u64(block, 80, generation);
     put_u64(block, 88, owner);
@@ -40,7 +37,7 @@ pub fn seal_block(block: &mut Block, want: &Want)
     ensures written { block.new ≡ sealed want.now block.old }
     ensures header { HeaderFits want.now block.new }
     ensures count { count_of block.new ≡ count_of block.old }
-    ensures body { drop 101 block.new ≡ drop 101 block.old }
+    ensures body { drop HEADER_SIZE block.new ≡ drop HEADER_SIZE block.old }
 {
     write_fields(
         block,

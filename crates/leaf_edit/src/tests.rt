@@ -113,10 +113,10 @@ fn packs_an_odd_leaf(rt: HostRuntime) {
     }
 }
 
-/// A leaf of four items is split, joined and sealed.
+/// A leaf of four items is split, joined and sealed, with the flags and the zeros of a header.
 #[test]
 fn splits_joins_and_seals(rt: HostRuntime) {
-    let mut block = [0; 4096];
+    let mut block = [0xee; 4096];
     LeafMut::empty(&mut block);
     for i in 0..4 {
         put(&mut block, key_of(i), &[7; 20]);
@@ -132,44 +132,33 @@ fn splits_joins_and_seals(rt: HostRuntime) {
     assert_eq!(rt; (leaf.len(), other.len()), (4, 0));
     assert_eq!(rt; leaf.room(), 3995 - 4 * 45);
     leaf.seal(&WANT);
+    assert_eq!(rt; &block[4..32], [0; 28].as_slice());
+    assert_eq!(rt; &block[56..64], [1, 0, 0, 0, 0, 0, 0, 1].as_slice());
+    assert_eq!(rt; &block[64..80], [0; 16].as_slice());
     match LeafView::open(&block, &WANT) {
         Ok(view) => assert_eq!(rt; view.find(&key_of(3)), Ok(3)),
         Err(fault) => assert!(rt; false, "{fault}"),
     }
 }
 
-/// Bytes are written over a part of an item's data, and all else stays.
+/// Bytes are written over a part of an item's data, and one more through a loan of them; all else stays.
 #[test]
-fn writes_over_data(rt: HostRuntime) {
+fn writes_data(rt: HostRuntime) {
     let mut block = [0; 4096];
     let mut leaf = LeafMut::empty(&mut block);
     leaf.insert(0, key_of(0), &[1, 2, 3, 4]);
     leaf.put_data(0, 1, &[8, 9]);
     assert_eq!(rt; leaf.room(), 3995 - 29);
+    let loan = leaf.data_mut(0);
+    assert_eq!(rt; loan.len(), 4);
+    if loan.len() == 4 {
+        loan[0] = 7;
+    }
     assert!(rt; is_leaf_body(&block));
     let leaf = LeafView::of_body(&block);
     assert_eq!(rt; leaf.len(), 1);
     if !leaf.is_empty() {
         assert_eq!(rt; leaf.key(0), key_of(0));
-        assert_eq!(rt; leaf.data(0), [1, 8, 9, 4].as_slice());
-    }
-}
-
-/// A byte is written through a loan of an item's data.
-#[test]
-fn lends_data(rt: HostRuntime) {
-    let mut block = [0; 4096];
-    let mut leaf = LeafMut::empty(&mut block);
-    leaf.insert(0, key_of(0), &[1, 2, 3]);
-    let loan = leaf.data_mut(0);
-    assert_eq!(rt; loan.len(), 3);
-    if loan.len() == 3 {
-        loan[1] = 9;
-    }
-    assert!(rt; is_leaf_body(&block));
-    let leaf = LeafView::of_body(&block);
-    assert_eq!(rt; leaf.len(), 1);
-    if !leaf.is_empty() {
-        assert_eq!(rt; leaf.data(0), [1, 9, 3].as_slice());
+        assert_eq!(rt; leaf.data(0), [7, 8, 9, 4].as_slice());
     }
 }

@@ -8,6 +8,7 @@ ghost use Rattle.leaf_edit.specs.Packed.{IsPacked};
 
 use crate::body::{bound_of, count_of, insert_item};
 use crate::header::Header;
+use blk_base::format::{ITEM_HEADER_SIZE, LEAF_BYTES};
 use blk_base::{Block, put_u32};
 use leaf_view::LeafView;
 
@@ -33,14 +34,14 @@ pub(crate) fn room(block: &Block) -> usize
     ensures { result ≡ room_of (items_in block.now) }
 {
     let count = count_of(block);
-    bound_of(block, count) - 25 * count
+    bound_of(block, count) - ITEM_HEADER_SIZE * count
 }
 
 /// Appends the items of another leaf from a place on.
 pub(crate) fn append_items(block: &mut Block, source: &LeafView, from: usize)
     requires packed { IsPacked block.old (items_in block.old) }
     requires within { from ≤ length source.now }
-    requires room { 25 * (length source.now - from) + data_of (drop from source.now) ≤ room_of (items_in block.old) }
+    requires room { ITEM_HEADER_SIZE * (length source.now - from) + data_of (drop from source.now) ≤ room_of (items_in block.old) }
     requires order { keys_rise (keys_of (items_in block.old ++ drop from source.now)) ≡ true }
     ensures { IsPacked block.new (items_in block.old ++ drop from source.now) }
 {
@@ -55,7 +56,7 @@ fn is_packed(block: &Block) -> bool
     requires { IsOk (leaf_body_of block.now) }
     ensures { OnTrue result (IsPacked block.now (items_in block.now)) }
 {
-    let mut bound = 3995;
+    let mut bound = LEAF_BYTES;
     for i in 0..count_of(block) {
         let header = Header::read(block, i);
         if header.offset as usize + header.size as usize != bound {

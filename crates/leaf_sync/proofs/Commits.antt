@@ -5,7 +5,7 @@ use Rattle.volume_image.specs.Stands.{Stands}
 use Rattle.disk_model.specs.declared.fault.DeviceFault.{DeviceFault}
 use Rattle.disk_model.specs.declared.fault.DeviceFault.TheVariants as faults
 use Rattle.disk_model.specs.Disk.{Image, Told, EveryMoment, AtEveryMoment, IfBoth, IfTold, image_now}
-use Rattle.disk_model.specs.Laws.{AtEveryMoment-joins, AtEveryMoment-same, AtEveryMoment-weaker, EveryMoment-weaker}
+use Rattle.disk_model.proofs.CrashLaws.{AtEveryMoment-joins, AtEveryMoment-same, AtEveryMoment-weaker, EveryMoment-weaker}
 use Rattle.batch_write.specs.Batch.{AtBlock, IsPlace, HasBatch, IsOldBut, IsOldOrNew, IsTried, LeavesOnly, numbers_of}
 use Rattle.batch_write.proofs.MomentLemmas.{moments_now}
 use Rattle.leaf_sync.specs.declared.store.Found.{Found}

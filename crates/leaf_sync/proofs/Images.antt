@@ -9,7 +9,7 @@ use Rattle.volume_format.specs.Views.{super_view}
 use Rattle.volume_image.specs.Stands.{AgreesOn, super_block}
 use Rattle.volume_image.proofs.Standing.{stands_local}
 use Rattle.disk_model.specs.Disk.{Image, Told, Leaves, held_now}
-use Rattle.disk_model.specs.Laws.{slice_get-set_other, slice_get-set_same, Contains-none}
+use Rattle.disk_model.proofs.CrashLaws.{slice_get-set_other, slice_get-set_same, Contains-none}
 use Rattle.batch_write.specs.Batch.{AtBlock, HasBatch, HasBlock, IsOldBut, IsOldOrNew, IsTried, LeavesOnly, numbers_of}
 use Rattle.batch_write.proofs.ImageLemmas.{same_or_other}
 use Rattle.leaf_sync.specs.declared.store.Found.{Found}

@@ -7,6 +7,7 @@ ghost use Rattle.blk_base.specs.Keys.{key_at, key_below, keys_rise};
 ghost use Rattle.blk_base.specs.Leaf.{after_header, below, in_bounds, are_apart, apart_before, count_of, item_offset};
 
 use crate::read::{byte_at, count_of, item_offset, item_size, key_at};
+use blk_base::format::{BLOCK_SIZE, HEADER_SIZE, ITEM_HEADER_SIZE, LEAF_BYTES, MOST_ITEMS};
 use blk_base::{Block, BlockFault, Want, crc32c, u32_at, u64_at};
 
 /// Whether the block has the sum of its bytes 32 to 4095.
@@ -51,16 +52,17 @@ pub(crate) fn check_header(block: &Block, want: &Want) -> Result<(), BlockFault>
 
 /// Whether each key but the first is above the one before it.
 fn each_above_last(block: &Block, count: usize, width: usize) -> bool
-    requires { 101 + width * count + 17 ≤ 4096 + width }
-    ensures { result ≡ list_all (λ i. key_below (key_at block.now (101 + width * (i - 1))) (key_at block.now (101 + width * i))) (range_with_len 1 (count - 1)) }
+    requires { HEADER_SIZE + width * count + 17 ≤ BLOCK_SIZE + width }
+    ensures { result ≡ list_all (λ i. key_below (key_at block.now (HEADER_SIZE + width * (i - 1))) (key_at block.now (HEADER_SIZE + width * i))) (range_with_len 1 (count - 1)) }
 {
-    (1..count).all(|i| key_at(block, 101 + width * (i - 1)) < key_at(block, 101 + width * i))
+    (1..count).all(|i| key_at(block, HEADER_SIZE + width * (i - 1))
+        < key_at(block, HEADER_SIZE + width * i))
 }
 
 /// Whether the keys that stand `width` bytes apart from byte 101 on rise.
 pub(crate) fn keys_rise(block: &Block, count: usize, width: usize) -> bool
-    requires { 101 + width * count + 17 ≤ 4096 + width }
-    ensures { result ≡ keys_rise (map (λ i. key_at block.now (101 + width * i)) (below count)) }
+    requires { HEADER_SIZE + width * count + 17 ≤ BLOCK_SIZE + width }
+    ensures { result ≡ keys_rise (map (λ i. key_at block.now (HEADER_SIZE + width * i)) (below count)) }
 {
     each_above_last(block, count, width)
 }
@@ -68,18 +70,19 @@ pub(crate) fn keys_rise(block: &Block, count: usize, width: usize) -> bool
 /// Whether the data of the items lie behind the item headers and inside the block.
 pub(crate) fn all_in_bounds(block: &Block, count: usize) -> bool
     requires known { count ≡ count_of block.now }
-    requires most { count ≤ 159 }
+    requires most { count ≤ MOST_ITEMS }
     ensures { result ≡ list_all (in_bounds block.now) (below count) }
 {
     (0..count).all(|i| {
-        25 * count <= item_offset(block, i) && item_offset(block, i) + item_size(block, i) <= 3995
+        ITEM_HEADER_SIZE * count <= item_offset(block, i)
+            && item_offset(block, i) + item_size(block, i) <= LEAF_BYTES
     })
 }
 
 /// Whether the data of two items share no byte.
 fn are_apart(block: &Block, i: usize, j: usize) -> bool
-    requires first { i < 159 }
-    requires second { j < 159 }
+    requires first { i < MOST_ITEMS }
+    requires second { j < MOST_ITEMS }
     ensures { result ≡ are_apart block.now i j }
 {
     let (start_i, size_i) = (item_offset(block, i), item_size(block, i));
@@ -89,7 +92,7 @@ fn are_apart(block: &Block, i: usize, j: usize) -> bool
 
 /// Whether the data of item i share no byte with those of an earlier item.
 fn is_apart_before(block: &Block, i: usize) -> bool
-    requires { i < 159 }
+    requires { i < MOST_ITEMS }
     ensures { result ≡ apart_before block.now i }
 {
     (0..i).all(|j| are_apart(block, i, j))
@@ -97,7 +100,7 @@ fn is_apart_before(block: &Block, i: usize) -> bool
 
 /// The same, where no earlier item begins below a place.
 fn is_apart_above(block: &Block, i: usize, lowest: usize) -> bool
-    requires most { i < 159 }
+    requires most { i < MOST_ITEMS }
     requires above { (j : ℕ) → j < i → lowest ≤ item_offset block.now j }
     ensures { result ≡ apart_before block.now i }
 {
@@ -106,11 +109,11 @@ fn is_apart_above(block: &Block, i: usize, lowest: usize) -> bool
 
 /// Whether no two items share a byte.
 pub(crate) fn all_apart(block: &Block, count: usize) -> bool
-    requires { count ≤ 159 }
+    requires { count ≤ MOST_ITEMS }
     ensures { result ≡ list_all (apart_before block.now) (below count) }
 {
     // The lowest place where data of the items so far begin.
-    let mut lowest = 3995;
+    let mut lowest = LEAF_BYTES;
     for i in 0..count {
         if !is_apart_above(block, i, lowest) {
             return false;

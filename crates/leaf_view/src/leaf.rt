@@ -6,6 +6,7 @@ ghost use Rattle.leaf_view.specs.Search.{keys_of, contents_of, IsPlace};
 use crate::checks::{all_apart, all_in_bounds, check_header, keys_rise};
 use crate::read::{count_of, item_data, key_at};
 use crate::search::find_key;
+use blk_base::format::{HEADER_SIZE, ITEM_HEADER_SIZE, MOST_ITEMS};
 use blk_base::{Block, BlockFault, Key, Want};
 use std::marker::Model;
 
@@ -34,10 +35,10 @@ fn check_body(block: &Block) -> Result<(), BlockFault>
     ensures { MatchResult result (λ _. leaf_body_of block.now ≡ Ok (items_in block.now)) (λ fault. leaf_body_of block.now ≡ Err fault) }
 {
     let count = count_of(block);
-    if count > 159 {
+    if count > MOST_ITEMS {
         return Err(BlockFault::Count);
     }
-    if !keys_rise(block, count, 25) {
+    if !keys_rise(block, count, ITEM_HEADER_SIZE) {
         return Err(BlockFault::Order);
     }
     if !all_in_bounds(block, count) {
@@ -78,7 +79,7 @@ impl<'a> LeafView<'a> {
     /// The number of items, at most 159.
     pub fn len(&self) -> usize
         ensures value { result ≡ length self.now }
-        ensures most { result ≤ 159 }
+        ensures most { result ≤ MOST_ITEMS }
     {
         count_of(self.block)
     }
@@ -95,7 +96,7 @@ impl<'a> LeafView<'a> {
         requires { i < length self.now }
         ensures { slice_get (keys_of self.now) i ≡ Some result }
     {
-        key_at(self.block, 101 + 25 * i)
+        key_at(self.block, HEADER_SIZE + ITEM_HEADER_SIZE * i)
     }
 
     /// The data of item i: 0 to 3970 bytes of the block.
@@ -112,6 +113,6 @@ impl<'a> LeafView<'a> {
         ensures found { IfOk result (λ i. slice_get (keys_of self.now) i ≡ Some key.now) }
         ensures absent { IfErr result (IsPlace (keys_of self.now) key.now) }
     {
-        find_key(self.block, self.len(), 25, key)
+        find_key(self.block, self.len(), ITEM_HEADER_SIZE, key)
     }
 }

@@ -6,6 +6,7 @@ ghost use Rattle.leaf_view.specs.Search.{pointer_keys, children_of, IsPlace};
 use crate::checks::{check_header, keys_rise};
 use crate::read::{child_at, count_of, key_at};
 use crate::search::find_key;
+use blk_base::format::{HEADER_SIZE, MOST_POINTERS, POINTER_SIZE};
 use blk_base::{Addr, Block, BlockFault, Key, Want};
 use std::marker::Model;
 
@@ -33,10 +34,10 @@ fn check_body(block: &Block) -> Result<(), BlockFault>
     ensures { MatchResult result (λ _. node_body_of block.now ≡ Ok (pointers_in block.now)) (λ fault. node_body_of block.now ≡ Err fault) }
 {
     let count = count_of(block);
-    if count == 0 || count > 121 {
+    if count == 0 || count > MOST_POINTERS {
         return Err(BlockFault::Count);
     }
-    if !keys_rise(block, count, 33) {
+    if !keys_rise(block, count, POINTER_SIZE) {
         return Err(BlockFault::Order);
     }
     Ok(())
@@ -72,7 +73,7 @@ impl<'a> NodeView<'a> {
     pub fn len(&self) -> usize
         ensures value { result ≡ length self.now }
         ensures least { 1 ≤ result }
-        ensures most { result ≤ 121 }
+        ensures most { result ≤ MOST_POINTERS }
     {
         count_of(self.block)
     }
@@ -89,7 +90,7 @@ impl<'a> NodeView<'a> {
         requires { i < length self.now }
         ensures { slice_get (pointer_keys self.now) i ≡ Some result }
     {
-        key_at(self.block, 101 + 33 * i)
+        key_at(self.block, HEADER_SIZE + POINTER_SIZE * i)
     }
 
     /// The byte address of child i, and the generation that its block has.
@@ -97,7 +98,7 @@ impl<'a> NodeView<'a> {
         requires { i < length self.now }
         ensures { slice_get (children_of self.now) i ≡ Some (result.0.0, result.1) }
     {
-        child_at(self.block, 101 + 33 * i)
+        child_at(self.block, HEADER_SIZE + POINTER_SIZE * i)
     }
 
     /// Looks for a key: `Ok` with its place, or `Err` with the place where it belongs, which is the number of keys
@@ -106,6 +107,6 @@ impl<'a> NodeView<'a> {
         ensures found { IfOk result (λ i. slice_get (pointer_keys self.now) i ≡ Some key.now) }
         ensures absent { IfErr result (IsPlace (pointer_keys self.now) key.now) }
     {
-        find_key(self.block, self.len(), 33, key)
+        find_key(self.block, self.len(), POINTER_SIZE, key)
     }
 }

@@ -6,7 +6,7 @@ use Rattle.blk_base.specs.Superblock.{SuperValue, SuperFits, IsSuper, super_byte
 use Rattle.format_laws.specs.Tables.{IsSuper-super_bytes}
 use Rattle.flat_model.specs.Volume.{bare_volume}
 use Rattle.disk_model.specs.Disk.{Image, Told, IfBoth, IfTold, image_now}
-use Rattle.disk_model.specs.Laws.{EveryMoment-same, EveryMoment-weaker, slice_get-set_other, slice_get-set_same}
+use Rattle.disk_model.proofs.CrashLaws.{EveryMoment-same, EveryMoment-weaker, slice_get-set_other, slice_get-set_same}
 use Rattle.volume_image.specs.Bare.{bare_root, bare_root_items, bare_items}
 use Rattle.volume_image.specs.Stands.{Stands, root_want, sub_want, super_block}
 use Rattle.volume_image.specs.Tree.{block_of}

@@ -2,8 +2,8 @@
 use Rattle.std.proofs.Common.{◌≡◌, ◌≢◌, ◌<◌, ◌⊎◌, ◌∷◌, [], ℕ, zero, suc, List, length, Option, Some, None, Bool, true, false, Contains, slice_get, slice_set, slice_index_or, length-set, refl, sym, ◌∙◌, ap, subst, inl, inr, arith}
 use Rattle.std.proofs.lemmas.List.Elements.{All-set}
 use Rattle.blk_base.specs.Bytes.{zeros}
-use Rattle.disk_model.specs.Disk.{IsBlock, Image, IsImage, Call, Held, Told, Leaves, GoesOn, EveryMoment, IfBoth, IfTold, TellsMore, Continues, after_call, during_call, after_calls, held_now, image_now, written, super_written}
-use Rattle.disk_model.specs.Laws.{held_now-goes_on, TellsMore-joins, EveryMoment-call, EveryMoment-same, EveryMoment-joins, EveryMoment-weaker, slice_get-set_other, slice_get-set_same, Contains-cons_cases, Contains-single, Contains-none}
+use Rattle.disk_model.specs.Disk.{IsBlock, Image, IsImage, Call, Held, Told, Leaves, GoesOn, EveryMoment, IfBoth, IfTold, TellsMore, Continues, IsUnsettled, without, after_call, during_call, after_calls, held_now, image_now, written, super_written}
+use Rattle.disk_model.proofs.CrashLaws.{held_now-goes_on, TellsMore-joins, EveryMoment-call, EveryMoment-same, EveryMoment-joins, EveryMoment-weaker, slice_get-set_other, slice_get-set_same, Contains-cons_cases, Contains-single, Contains-none, without-less, without-none}
 use Rattle.volume_image.specs.Stands.{super_block}
 use Rattle.mount_volume.specs.Mkfs.{FindsWhatIsRead, CrashLeaves, IsOldOrWritten}
 
@@ -137,7 +137,8 @@ begun-goes_on old now new superblock size ok call keeps begun goes =
 -- What a disk holds where a crash finds the old superblock or this one, with both leaves in their blocks.
 record IsReady (held : Held) (size : ℕ) (superblock root sub old : List ℕ) : Type 0 where
   pub supers : (bytes : List ℕ) → IsBlock bytes → Contains held.supers bytes → (bytes ≡ superblock) ⊎ (bytes ≡ old)
-  pub settled : held.pending ≡ []
+  pub root_settled : IsUnsettled held 17 → ⊥
+  pub sub_settled : IsUnsettled held 18 → ⊥
   pub count : length held.image ≡ size
   pub within : 18 < size
   pub root_is : slice_get held.image 17 ≡ Some root
@@ -150,20 +151,20 @@ ready_leaves : (held : Held) (size : ℕ) (superblock root sub old : List ℕ) (
 ready_leaves held size superblock root sub old image ready leaves =
     let within : 16 < length held.image = let count = ready.count in let inside = ready.within in omega arith in
     let in_image : 16 < length image = let count = leaves.size in omega arith in
-    let none : (at : ℕ) → Contains held.pending at → ⊥ = λ at among. Contains-none at (subst (λ (pending : List ℕ). Contains pending at) ready.settled among) in
     elim (ready.supers (slice_index_or image 16 []) (found_block held image within leaves) leaves.super) [
       | inl new ↦ inr (record {
         count = leaves.size ∙ ready.count;
         super_is = get_within image 16 [] in_image ∙ ap (λ (bytes : List ℕ). Some bytes) new;
-        root_is = leaves.others 17 (not_super 17 (omega arith)) (none 17) ∙ ready.root_is;
-        sub_is = leaves.others 18 (not_super 18 (omega arith)) (none 18) ∙ ready.sub_is;
+        root_is = leaves.others 17 (not_super 17 (omega arith)) ready.root_settled ∙ ready.root_is;
+        sub_is = leaves.others 18 (not_super 18 (omega arith)) ready.sub_settled ∙ ready.sub_is;
       })
       | inr same ↦ inl (found_same held image within leaves ∙ same)
     ]
 
--- the two leaves are on the disk, and nothing is pending
+-- the two leaves are on the disk, and settled
 pub record HasLeaves (held : Held) (root sub : List ℕ) : Type 0 where
-  pub settled : held.pending ≡ []
+  pub root_settled : IsUnsettled held 17 → ⊥
+  pub sub_settled : IsUnsettled held 18 → ⊥
   pub root_is : slice_get held.image 17 ≡ Some root
   pub sub_is : slice_get held.image 18 ≡ Some sub
 
@@ -173,7 +174,8 @@ leaf_calls root sub = Call.Write 17 root true root ∷ Call.Write 18 sub true su
 
 leaves_after : (held : Held) (root sub : List ℕ) → 18 < length held.image → HasLeaves (after_calls held (leaf_calls root sub)) root sub
 leaves_after held root sub within = record {
-  settled = refl;
+  root_settled = λ is. elim is [ inl pending ↦ Contains-none 17 pending | inr lost ↦ without-none 17 held.lost (without-less 18 (without 17 held.lost) 17 lost) ];
+  sub_settled = λ is. elim is [ inl pending ↦ Contains-none 18 pending | inr lost ↦ without-none 18 (without 17 held.lost) lost ];
   root_is = slice_get-set_other (slice_set held.image 17 root) 18 17 sub (λ same. absurd (omega (arith, same))) ∙ slice_get-set_same held.image 17 root (omega arith);
   sub_is = slice_get-set_same (slice_set held.image 17 root) 18 sub (let size = length-set held.image 17 root in omega arith);
 }
@@ -190,7 +192,8 @@ has_leaves old now size root sub count within goes =
 ready_before : (held : Held) (size : ℕ) (superblock root sub old : List ℕ) → FindsOnly old held → length held.image ≡ size → 18 < size → HasLeaves held root sub → IsReady held size superblock root sub old
 ready_before held size superblock root sub old only count within leaves = record {
   supers = λ bytes is_block among. inr (only bytes is_block among);
-  settled = leaves.settled;
+  root_settled = leaves.root_settled;
+  sub_settled = leaves.sub_settled;
   count = count;
   within = within;
   root_is = leaves.root_is;
@@ -205,7 +208,8 @@ ready_during : (held : Held) (size : ℕ) (superblock root sub old : List ℕ) (
     → IsReady (during_call held (Call.Super superblock ok left)) size superblock root sub old
 ready_during held size superblock root sub old ok left only count within leaves = record {
   supers = one_more superblock old held only;
-  settled = leaves.settled;
+  root_settled = leaves.root_settled;
+  sub_settled = leaves.sub_settled;
   count = count;
   within = within;
   root_is = leaves.root_is;
@@ -216,7 +220,8 @@ ready_after : (held : Held) (size : ℕ) (superblock root sub old : List ℕ) (o
     → IsReady (after_call held (Call.Super superblock ok left)) size superblock root sub old
 ready_after held size superblock root sub old ok left only count within leaves = record {
   supers = found ok;
-  settled = leaves.settled;
+  root_settled = leaves.root_settled;
+  sub_settled = leaves.sub_settled;
   count = length-set held.image 16 left ∙ count;
   within = within;
   root_is = slice_get-set_other held.image 16 17 left (not_super 17 (omega arith)) ∙ leaves.root_is;

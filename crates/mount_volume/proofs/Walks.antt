@@ -9,7 +9,8 @@ use Rattle.blk_base.specs.Address.{is_allowed}
 use Rattle.blk_base.specs.Bytes.{zeros}
 use Rattle.blk_base.specs.Leaf.{Item, leaf_of, leaf_body_of}
 use Rattle.blk_base.specs.Superblock.{SuperValue, super_of}
-use Rattle.disk_model.specs.Disk.{IfTold, ReadGives}
+use Rattle.disk_model.specs.Disk.{IfTold, ReadGives, known}
+use Rattle.disk_model.proofs.CrashLaws.{known_read}
 use Rattle.format_laws.specs.Blocks.{IsLeaf-from_read, leaf_body_of-Ok}
 use Rattle.format_laws.specs.Checks.{fails, finds, passes, finds_none}
 use Rattle.volume_image.specs.declared.fault.LoadFault.{LoadFault}
@@ -31,9 +32,12 @@ pub super_past : (seen : Option Image) (count : ℕ) → IfTold seen (λ image. 
 super_past None count all few = tt
 super_past (Some image) count all few = past_end image (zeros 4096) 16 (omega arith)
 
-pub super_read : (seen : Option Image) (bytes : List ℕ) → ReadGives seen 16 bytes → IfTold seen (λ image. super_block image ≡ bytes)
-super_read None bytes read = tt
-super_read (Some image) bytes read = sym (unwrap_or-slice_get image 16 (zeros 4096)) ∙ ap (λ o. unwrap_or o (zeros 4096)) read
+super_there : (seen : Option Image) (bytes : List ℕ) → IfTold seen (λ image. slice_get image 16 ≡ Some bytes) → IfTold seen (λ image. super_block image ≡ bytes)
+super_there None bytes read = tt
+super_there (Some image) bytes read = sym (unwrap_or-slice_get image 16 (zeros 4096)) ∙ ap (λ o. unwrap_or o (zeros 4096)) read
+
+pub super_read : (seen : Option Image) (lost : List ℕ) (bytes : List ℕ) → ReadGives seen lost 16 bytes → IfTold (known seen lost) (λ image. super_block image ≡ bytes)
+super_read seen lost bytes read = super_there (known seen lost) bytes (known_read seen lost 16 bytes read)
 
 pub super_is : (seen : Option Image) (bytes : List ℕ) (count : ℕ) (value : SuperValue) → IfTold seen (λ image. super_block image ≡ bytes) → IfTold seen (λ image. length image ≡ count) → super_of bytes count ≡ Ok value
     → IfTold seen (λ image. HasSuper image value)

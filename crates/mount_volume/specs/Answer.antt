@@ -1,6 +1,7 @@
 -- What a mount answers: a volume with its reach, or a fault.
 use Rattle.std.specs.Prelude.{◌≡◌, ◌≤◌, ◌+◌, ◌-◌, ◌^◌, ℕ, List, length, map, min, Option}
 use Rattle.blk_base.specs.declared.key.Addr.{Addr}
+pub use Rattle.blk_base.specs.Causes.{HasRisen}
 use Rattle.disk_model.specs.Disk.{IfTold}
 use Rattle.flat_model.specs.Coherent.{IsCoherentVolume}
 use Rattle.flat_model.specs.Volume.{mounted, volume_of}
@@ -42,7 +43,3 @@ IsToldFault seen (Load fault) = IfTold seen (λ image. IsMountFault image (Load 
 IsToldFault seen OneLeaf = IfTold seen (λ image. IsMountFault image OneLeaf)
 IsToldFault seen Disk = Unit {0}
 IsToldFault seen OutOfMemory = Unit {0}
-
--- A count of faults rose. At 2^64 - 1 it stands still, which counts as risen (own).
-abbrev pub HasRisen : ℕ → ℕ → Type 0
-HasRisen before now = min (before + 1) (2 ^ 64 - 1) ≤ now

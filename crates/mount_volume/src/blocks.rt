@@ -2,7 +2,7 @@
 ghost use Rattle.std.specs.Prelude.{◌≡◌, ◌≤◌, ◌<◌, ◌/◌, ℕ, Some, IfOk, IfErr, OnOk, OnErr, IsOk, Err, slice_get};
 ghost use Rattle.blk_base.specs.Address.{is_allowed};
 ghost use Rattle.blk_base.specs.Leaf.{leaf_body_of};
-ghost use Rattle.disk_model.specs.Disk.{IfTold, HasCause};
+ghost use Rattle.disk_model.specs.Disk.{IfTold, HasCause, known};
 ghost use Rattle.volume_format.specs.Views.{super_view};
 ghost use Rattle.volume_image.specs.Stands.{super_block};
 ghost use Rattle.volume_image.specs.Tree.{was_reached};
@@ -30,9 +30,10 @@ pub(crate) fn read_block<D: Disk>(
     into: &mut Block,
 ) -> Result<(), DiskFailed>
     requires { at.0 / 4096 < D.count disk.old }
-    ensures bytes { OnOk result (IfTold (D.seen disk.old) (λ image. slice_get image (at.0 / 4096) ≡ Some into.new)) }
+    ensures bytes { OnOk result (IfTold (known (D.seen disk.old) (D.lost disk.old)) (λ image. slice_get image (at.0 / 4096) ≡ Some into.new)) }
     ensures size { D.count disk.new ≡ D.count disk.old }
     ensures seen { D.seen disk.new ≡ D.seen disk.old }
+    ensures lost { D.lost disk.new ≡ D.lost disk.old }
     ensures told { D.told disk.new ≡ D.told disk.old }
     ensures cause { HasCause (D.faults disk.old) (D.faults disk.new) result }
 {
@@ -42,9 +43,10 @@ pub(crate) fn read_block<D: Disk>(
 
 /// Reads the bytes of the superblock; a disk without its block counts as zeros there.
 fn read_super_block<D: Disk>(disk: &mut D, into: &mut Block) -> Result<(), DiskFailed>
-    ensures bytes { OnOk result (IfTold (D.seen disk.old) (λ image. super_block image ≡ into.new)) }
+    ensures bytes { OnOk result (IfTold (known (D.seen disk.old) (D.lost disk.old)) (λ image. super_block image ≡ into.new)) }
     ensures size { D.count disk.new ≡ D.count disk.old }
     ensures seen { D.seen disk.new ≡ D.seen disk.old }
+    ensures lost { D.lost disk.new ≡ D.lost disk.old }
     ensures told { D.told disk.new ≡ D.told disk.old }
     ensures cause { HasCause (D.faults disk.old) (D.faults disk.new) result }
 {
@@ -57,14 +59,15 @@ fn read_super_block<D: Disk>(disk: &mut D, into: &mut Block) -> Result<(), DiskF
 
 /// Reads the superblock ("Superblock" of the Btrfs on-disk format).
 pub(crate) fn read_super<D: Disk>(disk: &mut D) -> Result<Super, MountFault>
-    ensures ok { IfOk result (λ superblock. IfTold (D.seen disk.old) (λ image. HasSuper image (super_view superblock))) }
+    ensures ok { IfOk result (λ superblock. IfTold (known (D.seen disk.old) (D.lost disk.old)) (λ image. HasSuper image (super_view superblock))) }
     ensures least { IfOk result (λ superblock. 4096 ≤ superblock.blocks) }
     ensures most { IfOk result (λ superblock. superblock.blocks ≤ 65536) }
     ensures on_disk { IfOk result (λ superblock. superblock.blocks ≤ D.count disk.old) }
-    ensures fault { IfErr result (IsToldFault (D.seen disk.old)) }
+    ensures fault { IfErr result (IsToldFault (known (D.seen disk.old) (D.lost disk.old))) }
     ensures disk_fault { (result ≡ Err MountFault.Disk) → HasRisen (D.faults disk.old) (D.faults disk.new) }
     ensures size { D.count disk.new ≡ D.count disk.old }
     ensures seen { D.seen disk.new ≡ D.seen disk.old }
+    ensures lost { D.lost disk.new ≡ D.lost disk.old }
     ensures told { D.told disk.new ≡ D.told disk.old }
     ensures counted { D.faults disk.old ≤ D.faults disk.new }
 {
@@ -106,11 +109,12 @@ pub(crate) fn read_leaf<D: Disk>(
     requires low { want.now.level ≡ 0 }
     requires on_disk { blocks ≤ D.count disk.old }
     ensures body { OnOk result (IsOk (leaf_body_of into.new)) }
-    ensures walked { OnOk result (IfTold (D.seen disk.old) (λ image. IsWalkedLeaf image blocks want.now (addresses_of reached.now) into.new)) }
-    ensures fault { IfErr result (λ fault. IfTold (D.seen disk.old) (λ image. IsWalkFault image blocks want.now (addresses_of reached.now) fault)) }
+    ensures walked { OnOk result (IfTold (known (D.seen disk.old) (D.lost disk.old)) (λ image. IsWalkedLeaf image blocks want.now (addresses_of reached.now) into.new)) }
+    ensures fault { IfErr result (λ fault. IfTold (known (D.seen disk.old) (D.lost disk.old)) (λ image. IsWalkFault image blocks want.now (addresses_of reached.now) fault)) }
     ensures disk_fault { (result ≡ Err MountFault.Disk) → HasRisen (D.faults disk.old) (D.faults disk.new) }
     ensures size { D.count disk.new ≡ D.count disk.old }
     ensures seen { D.seen disk.new ≡ D.seen disk.old }
+    ensures lost { D.lost disk.new ≡ D.lost disk.old }
     ensures told { D.told disk.new ≡ D.told disk.old }
     ensures counted { D.faults disk.old ≤ D.faults disk.new }
 {

@@ -1,6 +1,6 @@
 //! The files of a leaf with their blocks, read from a disk.
 ghost use Rattle.std.specs.Prelude.{◌≡◌, ◌≤◌, All, Err, IfErr, OnOk};
-ghost use Rattle.disk_model.specs.Disk.{IfTold};
+ghost use Rattle.disk_model.specs.Disk.{IfTold, known};
 ghost use Rattle.leaf_items.specs.Candidate.{IsLone, lone, run_of, with_file, with_files};
 ghost use Rattle.volume_image.specs.Stands.{data_of};
 ghost use Rattle.mount_volume.specs.Answer.{HasRisen};
@@ -22,13 +22,14 @@ fn load_file<D: Disk>(
 ) -> Result<(), MountFault>
     requires lone { IsLone volume.old }
     requires inside { IsInside (D.count disk.old) file.now }
-    ensures ok { OnOk result (IfTold (D.seen disk.old) (λ image. volume.new ≡ lone (with_file (data_of image) file.now (run_of volume.old)))) }
+    ensures ok { OnOk result (IfTold (known (D.seen disk.old) (D.lost disk.old)) (λ image. volume.new ≡ lone (with_file (data_of image) file.now (run_of volume.old)))) }
     ensures put { OnOk result (IsPut file.now volume.old volume.new) }
     ensures lone { OnOk result (IsLone volume.new) }
     ensures fault { IfErr result IsDiskOrMemory }
     ensures disk_fault { (result ≡ Err MountFault.Disk) → HasRisen (D.faults disk.old) (D.faults disk.new) }
     ensures size { D.count disk.new ≡ D.count disk.old }
     ensures seen { D.seen disk.new ≡ D.seen disk.old }
+    ensures lost { D.lost disk.new ≡ D.lost disk.old }
     ensures told { D.told disk.new ≡ D.told disk.old }
     ensures counted { D.faults disk.old ≤ D.faults disk.new }
 {
@@ -54,13 +55,14 @@ pub(crate) fn load_files<D: Disk>(
     requires lone { IsLone volume.old }
     requires inside { All (IsInside (D.count disk.old)) files.now }
     requires own_blocks { HaveOwnBlocks files.now }
-    ensures ok { OnOk result (IfTold (D.seen disk.old) (λ image. volume.new ≡ lone (with_files (data_of image) files.now (run_of volume.old)))) }
+    ensures ok { OnOk result (IfTold (known (D.seen disk.old) (D.lost disk.old)) (λ image. volume.new ≡ lone (with_files (data_of image) files.now (run_of volume.old)))) }
     ensures put { OnOk result (ArePut files.now volume.old volume.new) }
     ensures lone { OnOk result (IsLone volume.new) }
     ensures fault { IfErr result IsDiskOrMemory }
     ensures disk_fault { (result ≡ Err MountFault.Disk) → HasRisen (D.faults disk.old) (D.faults disk.new) }
     ensures size { D.count disk.new ≡ D.count disk.old }
     ensures seen { D.seen disk.new ≡ D.seen disk.old }
+    ensures lost { D.lost disk.new ≡ D.lost disk.old }
     ensures told { D.told disk.new ≡ D.told disk.old }
     ensures counted { D.faults disk.old ≤ D.faults disk.new }
 {

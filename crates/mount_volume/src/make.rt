@@ -1,7 +1,7 @@
 ghost use Rattle.std.specs.Prelude.{◌≡◌, ◌≤◌, ◌↔◌, ◌⊎◌, Err, OnOk, IsTrue};
 ghost use Rattle.blk_base.specs.Superblock.{super_bytes};
 ghost use Rattle.flat_model.specs.Volume.{bare_volume};
-ghost use Rattle.disk_model.specs.Disk.{IfTold};
+ghost use Rattle.disk_model.specs.Disk.{IfTold, without};
 ghost use Rattle.volume_image.specs.Stands.{Stands, super_block};
 ghost use Rattle.mount_volume.specs.Mkfs.{MayBeMade};
 ghost use Rattle.mount_volume.specs.Answer.{HasRisen};
@@ -67,6 +67,7 @@ pub fn mkfs<D: Disk>(
 
     ensures stands { OnOk result (IfTold (D.seen disk.new) (λ image. Stands image (bare_volume 1))) }
     ensures superblock { OnOk result (IfTold (D.seen disk.new) (λ image. super_block image ≡ super_bytes (made_super fsid blocks))) }
+    ensures lost { OnOk result (D.lost disk.new ≡ without 18 (without 17 (D.lost disk.old))) }
     ensures crash { CrashLeaves (D.told disk.old) (D.told disk.new) IsOldOrBare }
 
     ensures size { D.count disk.new ≡ D.count disk.old }

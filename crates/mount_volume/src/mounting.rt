@@ -3,7 +3,7 @@ ghost use Rattle.std.specs.Prelude.{◌≡◌, ◌≤◌, All, Err, IfErr, IfOk}
 ghost use Rattle.leaf_items.specs.Candidate.{IsLone, candidate, lone};
 ghost use Rattle.leaf_items.specs.Found.{files_of};
 ghost use Rattle.volume_image.specs.Stands.{data_of};
-ghost use Rattle.disk_model.specs.Disk.{IfTold};
+ghost use Rattle.disk_model.specs.Disk.{IfTold, known};
 ghost use Rattle.volume_format.specs.Views.{root_view, super_view};
 ghost use Rattle.mount_volume.specs.Answer.{HasRisen, IsMountedAs, IsReady, IsToldFault};
 ghost use Rattle.mount_volume.specs.Mount.{IsMountFault};
@@ -29,13 +29,14 @@ fn load_volume<D: Disk>(
 ) -> Result<FlatVolume, MountFault>
     requires inside { All (IsInside (D.count disk.old)) (files_of leaf.now) }
     requires own_blocks { HaveOwnBlocks (files_of leaf.now) }
-    ensures ok { IfOk result (λ volume. IfTold (D.seen disk.old) (λ image. volume ≡ lone (candidate leaf.now (data_of image)))) }
+    ensures ok { IfOk result (λ volume. IfTold (known (D.seen disk.old) (D.lost disk.old)) (λ image. volume ≡ lone (candidate leaf.now (data_of image)))) }
     ensures built { IfOk result (IsBuilt leaf.now) }
     ensures lone { IfOk result IsLone }
     ensures fault { IfErr result IsDiskOrMemory }
     ensures disk_fault { (result ≡ Err MountFault.Disk) → HasRisen (D.faults disk.old) (D.faults disk.new) }
     ensures size { D.count disk.new ≡ D.count disk.old }
     ensures seen { D.seen disk.new ≡ D.seen disk.old }
+    ensures lost { D.lost disk.new ≡ D.lost disk.old }
     ensures told { D.told disk.new ≡ D.told disk.old }
     ensures counted { D.faults disk.old ≤ D.faults disk.new }
 {
@@ -57,14 +58,15 @@ fn mount_sub<D: Disk>(
     requires most { superblock.blocks ≤ 65536 }
     requires on_disk { superblock.blocks ≤ D.count disk.old }
     requires low { root.level ≡ 0 }
-    requires leads { IfTold (D.seen disk.old) (λ image. Leads image (super_view superblock) (root_view root)) }
-    ensures stands { IfOk result (λ mounted. IfTold (D.seen disk.old) (λ image. IsMountedAs image mounted)) }
-    ensures whole { IfOk result (λ _. IfTold (D.seen disk.old) (λ image. (fault : MountFault) → IsMountFault image fault → ⊥)) }
+    requires leads { IfTold (known (D.seen disk.old) (D.lost disk.old)) (λ image. Leads image (super_view superblock) (root_view root)) }
+    ensures stands { IfOk result (λ mounted. IfTold (known (D.seen disk.old) (D.lost disk.old)) (λ image. IsMountedAs image mounted)) }
+    ensures whole { IfOk result (λ _. IfTold (known (D.seen disk.old) (D.lost disk.old)) (λ image. (fault : MountFault) → IsMountFault image fault → ⊥)) }
     ensures ready { IfOk result (λ mounted. IsReady mounted (D.count disk.old)) }
-    ensures fault { IfErr result (IsToldFault (D.seen disk.old)) }
+    ensures fault { IfErr result (IsToldFault (known (D.seen disk.old) (D.lost disk.old))) }
     ensures disk_fault { (result ≡ Err MountFault.Disk) → HasRisen (D.faults disk.old) (D.faults disk.new) }
     ensures size { D.count disk.new ≡ D.count disk.old }
     ensures seen { D.seen disk.new ≡ D.seen disk.old }
+    ensures lost { D.lost disk.new ≡ D.lost disk.old }
     ensures told { D.told disk.new ≡ D.told disk.old }
     ensures counted { D.faults disk.old ≤ D.faults disk.new }
 {
@@ -103,13 +105,14 @@ fn mount_sub<D: Disk>(
 /// tree that is higher than a leaf, and for items of no volume that stands in one leaf. `Disk` comes only where the disk
 /// failed in this call.
 pub fn mount<D: Disk>(alloc: Global, disk: &mut D) -> Result<Mounted, MountFault>
-    ensures stands { IfOk result (λ mounted. IfTold (D.seen disk.old) (λ image. IsMountedAs image mounted)) }
-    ensures whole { IfOk result (λ _. IfTold (D.seen disk.old) (λ image. (fault : MountFault) → IsMountFault image fault → ⊥)) }
+    ensures stands { IfOk result (λ mounted. IfTold (known (D.seen disk.old) (D.lost disk.old)) (λ image. IsMountedAs image mounted)) }
+    ensures whole { IfOk result (λ _. IfTold (known (D.seen disk.old) (D.lost disk.old)) (λ image. (fault : MountFault) → IsMountFault image fault → ⊥)) }
     ensures ready { IfOk result (λ mounted. IsReady mounted (D.count disk.old)) }
-    ensures fault { IfErr result (IsToldFault (D.seen disk.old)) }
+    ensures fault { IfErr result (IsToldFault (known (D.seen disk.old) (D.lost disk.old))) }
     ensures disk_fault { (result ≡ Err MountFault.Disk) → HasRisen (D.faults disk.old) (D.faults disk.new) }
     ensures size { D.count disk.new ≡ D.count disk.old }
     ensures seen { D.seen disk.new ≡ D.seen disk.old }
+    ensures lost { D.lost disk.new ≡ D.lost disk.old }
     ensures told { D.told disk.new ≡ D.told disk.old }
     ensures counted { D.faults disk.old ≤ D.faults disk.new }
 {

@@ -2,7 +2,7 @@
 ghost use Rattle.std.specs.Prelude.{◌≡◌, ◌≤◌, ◌↔◌, IfOk, IfErr, IsTrue, Err, MatchOption};
 ghost use Rattle.blk_base.specs.Items.{RootValue};
 ghost use Rattle.blk_base.specs.Keys.{root_item};
-ghost use Rattle.disk_model.specs.Disk.{IfTold};
+ghost use Rattle.disk_model.specs.Disk.{IfTold, known};
 ghost use Rattle.volume_format.specs.Views.{root_view, super_view};
 ghost use Rattle.volume_image.specs.Stands.{root_want, sub_want};
 ghost use Rattle.mount_volume.specs.Answer.{HasRisen, IsToldFault};
@@ -88,13 +88,14 @@ fn one_root(leaf: &LeafView<'_>) -> Option<RootItem>
 pub(crate) fn read_root<D: Disk>(disk: &mut D, superblock: &Super) -> Result<RootItem, MountFault>
     requires plain { IsPlain (super_view superblock.now) }
     requires on_disk { superblock.now.blocks ≤ D.count disk.old }
-    requires spelled { IfTold (D.seen disk.old) (λ image. HasSuper image (super_view superblock.now)) }
-    ensures ok { IfOk result (λ root. IfTold (D.seen disk.old) (λ image. Leads image (super_view superblock.now) (root_view root))) }
+    requires spelled { IfTold (known (D.seen disk.old) (D.lost disk.old)) (λ image. HasSuper image (super_view superblock.now)) }
+    ensures ok { IfOk result (λ root. IfTold (known (D.seen disk.old) (D.lost disk.old)) (λ image. Leads image (super_view superblock.now) (root_view root))) }
     ensures low { IfOk result (λ root. root.level ≡ 0) }
-    ensures fault { IfErr result (IsToldFault (D.seen disk.old)) }
+    ensures fault { IfErr result (IsToldFault (known (D.seen disk.old) (D.lost disk.old))) }
     ensures disk_fault { (result ≡ Err MountFault.Disk) → HasRisen (D.faults disk.old) (D.faults disk.new) }
     ensures size { D.count disk.new ≡ D.count disk.old }
     ensures seen { D.seen disk.new ≡ D.seen disk.old }
+    ensures lost { D.lost disk.new ≡ D.lost disk.old }
     ensures told { D.told disk.new ≡ D.told disk.old }
     ensures counted { D.faults disk.old ≤ D.faults disk.new }
 {

@@ -3,7 +3,7 @@ ghost use Rattle.blk_base.specs.Entries.{ref_bytes};
 ghost use Rattle.blk_base.specs.Items.{inode_bytes};
 ghost use Rattle.blk_base.specs.Leaf.{leaf_of};
 ghost use Rattle.blk_base.specs.Superblock.{super_bytes};
-ghost use Rattle.disk_model.specs.Disk.{HasCause, IfBoth};
+ghost use Rattle.disk_model.specs.Disk.{HasCause, IfBoth, without};
 ghost use Rattle.volume_image.specs.Bare.{bare_inode, bare_ref, bare_root, bare_root_items, bare_items};
 ghost use Rattle.volume_image.specs.Stands.{root_want, sub_want};
 ghost use Rattle.mount_volume.specs.Mkfs.{AreVolume, CrashLeaves, IsOldOrWritten, made_super};
@@ -180,6 +180,7 @@ pub(crate) fn write_volume<D: Disk>(
     requires { 18 < D.count disk.old }
     ensures size { D.count disk.new ≡ D.count disk.old }
     ensures seen { OnOk result (IfBoth (D.seen disk.old) (D.seen disk.new) (λ old new. new ≡ slice_set (slice_set (slice_set old 17 root.now) 18 sub.now) 16 superblock.now)) }
+    ensures lost { OnOk result (D.lost disk.new ≡ without 18 (without 17 (D.lost disk.old))) }
     ensures crash { CrashLeaves (D.told disk.old) (D.told disk.new) (IsOldOrWritten (D.count disk.old) superblock.now root.now sub.now) }
     ensures cause { HasCause (D.faults disk.old) (D.faults disk.new) result }
 {

@@ -6,6 +6,7 @@ ghost use Rattle.leaf_view.specs.Listed.{pointers_in};
 ghost use Rattle.leaf_view.specs.Search.{pointer_keys};
 ghost use Rattle.node_edit.specs.Pointers.{HasPointers, pointer_image, with_child};
 
+use blk_base::format::{HEADER_SIZE, MOST_POINTERS, POINTER_SIZE};
 use blk_base::{Addr, Block, Key, put_bytes, put_u32, put_u64, u32_at};
 use leaf_edit::put_key;
 
@@ -18,13 +19,13 @@ pub(crate) fn count_of(block: &Block) -> usize
 
 /// Writes the 33 bytes of pointer i.
 fn put_pointer(block: &mut Block, i: usize, key: &Key, child: u64, generation: u64)
-    requires { i < 121 }
+    requires { i < MOST_POINTERS }
     ensures written { block.new ≡ with_bytes block.old (pointer_at i) (pointer_image (record { key = key.now; at = child; generation = generation })) }
     ensures fits { KeyFits key.now }
     ensures fits_child { child < 2 ^ 64 }
     ensures fits_generation { generation < 2 ^ 64 }
 {
-    let at = 101 + 33 * i;
+    let at = HEADER_SIZE + POINTER_SIZE * i;
     put_key(block, at, key);
     put_u64(block, at + 17, child);
     put_u64(block, at + 25, generation);
@@ -50,12 +51,15 @@ pub(crate) fn truncate(block: &mut Block, at: usize)
 pub(crate) fn insert_pointer(block: &mut Block, at: usize, key: &Key, child: Addr, generation: u64)
     requires known { HasPointers block.old (pointers_in block.old) }
     requires within { at ≤ length (pointers_in block.old) }
-    requires room { length (pointers_in block.old) < 121 }
+    requires room { length (pointers_in block.old) < MOST_POINTERS }
     requires order { keys_rise (pointer_keys (insert (pointers_in block.old) at (record { key = key.now; at = child.0; generation = generation }))) ≡ true }
     ensures { HasPointers block.new (insert (pointers_in block.old) at (record { key = key.now; at = child.0; generation = generation })) }
 {
     let count = count_of(block);
-    block.copy_within(101 + 33 * at..101 + 33 * count, 101 + 33 * (at + 1));
+    block.copy_within(
+        HEADER_SIZE + POINTER_SIZE * at..HEADER_SIZE + POINTER_SIZE * count,
+        HEADER_SIZE + POINTER_SIZE * (at + 1),
+    );
     put_pointer(block, at, key, child.0, generation);
     put_u32(block, 96, count as u32 + 1);
 }
@@ -67,7 +71,10 @@ pub(crate) fn remove_pointer(block: &mut Block, at: usize)
     ensures { HasPointers block.new (remove (pointers_in block.old) at) }
 {
     let count = count_of(block);
-    block.copy_within(101 + 33 * (at + 1)..101 + 33 * count, 101 + 33 * at);
+    block.copy_within(
+        HEADER_SIZE + POINTER_SIZE * (at + 1)..HEADER_SIZE + POINTER_SIZE * count,
+        HEADER_SIZE + POINTER_SIZE * at,
+    );
     put_u32(block, 96, count as u32 - 1);
 }
 
@@ -77,8 +84,8 @@ pub(crate) fn put_child(block: &mut Block, at: usize, child: u64, generation: u6
     requires within { at < length (pointers_in block.old) }
     ensures { HasPointers block.new (with_child (pointers_in block.old) at child generation) }
 {
-    put_u64(block, 101 + 33 * at + 17, child);
-    put_u64(block, 101 + 33 * at + 25, generation);
+    put_u64(block, HEADER_SIZE + POINTER_SIZE * at + 17, child);
+    put_u64(block, HEADER_SIZE + POINTER_SIZE * at + 25, generation);
 }
 
 /// Appends the pointers of another list from a place on.
@@ -86,7 +93,7 @@ pub(crate) fn append_pointers(block: &mut Block, source: &Block, from: usize)
     requires known { HasPointers block.old (pointers_in block.old) }
     requires source { HasPointers source.now (pointers_in source.now) }
     requires within { from ≤ length (pointers_in source.now) }
-    requires room { length (pointers_in block.old) + (length (pointers_in source.now) - from) ≤ 121 }
+    requires room { length (pointers_in block.old) + (length (pointers_in source.now) - from) ≤ MOST_POINTERS }
     requires order { keys_rise (pointer_keys (pointers_in block.old ++ drop from (pointers_in source.now))) ≡ true }
     ensures { HasPointers block.new (pointers_in block.old ++ drop from (pointers_in source.now)) }
 {
@@ -94,8 +101,8 @@ pub(crate) fn append_pointers(block: &mut Block, source: &Block, from: usize)
     let end = count_of(source);
     put_bytes(
         block,
-        101 + 33 * count,
-        &source[101 + 33 * from..101 + 33 * end],
+        HEADER_SIZE + POINTER_SIZE * count,
+        &source[HEADER_SIZE + POINTER_SIZE * from..HEADER_SIZE + POINTER_SIZE * end],
     );
     put_u32(block, 96, (count + (end - from)) as u32);
 }

@@ -8,6 +8,7 @@ ghost use Rattle.node_edit.specs.Pointers.{HasPointers, with_child};
 use crate::body::{
     append_pointers, clear, count_of, insert_pointer, put_child, remove_pointer, truncate,
 };
+use blk_base::format::MOST_POINTERS;
 use blk_base::{Addr, Block, Key, Want};
 use leaf_edit::seal_block;
 
@@ -46,7 +47,7 @@ impl<'a> NodeMut<'a> {
     /// The number of pointers, at most 121.
     pub fn len(&self) -> usize
         ensures value { result ≡ length (pointers_of self.now) }
-        ensures most { result ≤ 121 }
+        ensures most { result ≤ MOST_POINTERS }
     {
         count_of(self.block)
     }
@@ -61,7 +62,7 @@ impl<'a> NodeMut<'a> {
     /// Puts a pointer in at a place: a child's first key, its byte address and its generation.
     pub fn insert(&mut self, at: usize, key: Key, child: Addr, generation: u64)
         requires within { at ≤ length (pointers_of self.old) }
-        requires room { length (pointers_of self.old) < 121 }
+        requires room { length (pointers_of self.old) < MOST_POINTERS }
         requires order { keys_rise (pointer_keys (insert (pointers_of self.old) at (record { key = key; at = child.0; generation = generation }))) ≡ true }
         ensures pointers { pointers_of self.new ≡ insert (pointers_of self.old) at (record { key = key; at = child.0; generation = generation }) }
         ensures body { 1 ≤ length (pointers_of self.new) → node_body_of (bytes_of self.new) ≡ Ok (pointers_of self.new) }
@@ -107,7 +108,7 @@ impl<'a> NodeMut<'a> {
 
     /// Moves all pointers of another list behind the last one, and leaves the other list empty.
     pub fn join(&mut self, other: &mut NodeMut<'_>)
-        requires room { length (pointers_of self.old) + length (pointers_of other.old) ≤ 121 }
+        requires room { length (pointers_of self.old) + length (pointers_of other.old) ≤ MOST_POINTERS }
         requires order { keys_rise (pointer_keys (pointers_of self.old ++ pointers_of other.old)) ≡ true }
         ensures pointers { pointers_of self.new ≡ pointers_of self.old ++ pointers_of other.old }
         ensures empty { pointers_of other.new ≡ [] }

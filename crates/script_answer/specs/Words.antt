@@ -5,7 +5,7 @@ use Rattle.flat_model.specs.declared.answer.Answer.{Answer}
 use Rattle.flat_model.specs.declared.answer.Answer.TheVariants as answers
 use Rattle.flat_model.specs.declared.answer.Reason.{Reason}
 use Rattle.flat_model.specs.declared.answer.Reason.TheVariants as reasons
-use Rattle.volume_listing.specs.Listing.{printed}
+use Rattle.io_edge.specs.Printed.{printed}
 use Rattle.script_answer.specs.declared.answer.FirstAnswer.{FirstAnswer}
 use Rattle.script_answer.specs.declared.answer.FirstAnswer.TheVariants as first_answers
 

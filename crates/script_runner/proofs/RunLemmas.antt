@@ -11,14 +11,14 @@ use Rattle.mount_volume.specs.Answer.{HasRisen, IsMountedAs, IsToldFault}
 use Rattle.mount_volume.specs.declared.fault.MountFault.{MountFault}
 use Rattle.mount_volume.specs.declared.fault.MountFault.TheVariants.{Super, Load, OneLeaf, Disk, OutOfMemory}
 use Rattle.mount_volume.specs.declared.mounted.Mounted.{Mounted}
-use Rattle.script_text.specs.declared.script.Line.{Line}
+use Rattle.flat_model.specs.declared.request.Line.{Line}
 use Rattle.script_text.specs.declared.fault.ScriptFault.{ScriptFault}
 use Rattle.script_text.specs.declared.fault.ScriptFault.TheVariants as script_faults
 use Rattle.script_text.specs.Kinds as kinds
 use Rattle.script_text.specs.Script.{script_of}
-use Rattle.script_source.specs.declared.reading.ReadFault.{ReadFault}
-use Rattle.script_source.specs.declared.reading.ReadFault.TheVariants as source_faults
-use Rattle.script_source.specs.Reading.{HasGiven, HasGivenSome, IsTooLong}
+use Rattle.io_edge.specs.declared.reading.ReadFault.{ReadFault}
+use Rattle.io_edge.specs.declared.reading.ReadFault.TheVariants as source_faults
+use Rattle.io_edge.specs.Reading.{HasGiven, HasGivenSome, IsTooLong}
 use Rattle.leaf_run.specs.declared.run.LeafRun.{LeafRun}
 use Rattle.leaf_run.specs.Begun.{FindsWholeVolume}
 use Rattle.leaf_run.specs.Run.{AreCalls, Kept, RunLeaves, State, state_after, state_of}

@@ -14,7 +14,7 @@ use io_edge::{Sink, Source};
 use leaf_lines::{RunFault, run_lines};
 use leaf_run::LeafRun;
 use mount_volume::{Mounted, mount};
-use script_source::{ReadFault, read_all};
+use io_edge::{ReadFault, read_all};
 use script_text::{Line, ScriptFault, parse};
 use std::alloc::Global;
 

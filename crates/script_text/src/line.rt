@@ -8,14 +8,9 @@ use crate::fault::{LineFault, ScriptKind};
 use crate::number::number;
 use crate::parts::parts;
 use crate::request::request;
-use crate::script::Line;
+use blk_base::limits::{MOST_CALLERS, MOST_LINES};
+use flat_model::Line;
 use std::alloc::Global;
-
-/// The most lines of a script.
-const MOST_LINES: u32 = 65_536;
-
-/// The greatest number of a caller.
-const MOST_CALLERS: u64 = 16;
 
 /// The caller, 1 to 16, that the word is.
 #[tactic(auto, unfolding(crate::specs::Script::caller_of))]

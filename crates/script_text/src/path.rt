@@ -7,15 +7,11 @@ use crate::fault::{LineFault, ScriptKind};
 use crate::number::number;
 use crate::parts::parts;
 use crate::text::text;
+use blk_base::format::FS_TREE;
+use blk_base::limits::MOST_PATH_NAMES;
 use blk_base::{Name, SubId, is_name};
 use flat_model::{Path, Place};
 use std::alloc::Global;
-
-/// The most names of a path.
-const MOST_NAMES: usize = 64;
-
-/// The subvolume that needs no number in front of a path.
-const FIRST_SUB: u64 = 5;
 
 /// The subvolume that stands in front of a path's first slash: nothing for 5, and else its number and a colon (own).
 #[tactic(auto, unfolding(crate::specs::Paths::sub_of))]
@@ -23,9 +19,9 @@ fn sub(head: &[u8]) -> Result<SubId, LineFault>
     ensures { Gives (λ id. id.0) result (sub_of head.now) }
 {
     match head {
-        [] => Ok(SubId(FIRST_SUB)),
+        [] => Ok(SubId(FS_TREE)),
         [digits @ .., b':'] => match number(digits) {
-            Some(id) if id != FIRST_SUB => Ok(SubId(id)),
+            Some(id) if id != FS_TREE => Ok(SubId(id)),
             _ => Err(LineFault::Kind(ScriptKind::Path)),
         },
         _ => Err(LineFault::Kind(ScriptKind::Path)),
@@ -75,7 +71,7 @@ fn names(alloc: Global, pieces: &[&[u8]]) -> Result<Vec<Name>, LineFault>
     if is_root(pieces) {
         return Ok(Vec::new(alloc));
     }
-    if pieces.is_empty() || MOST_NAMES < pieces.len() {
+    if pieces.is_empty() || MOST_PATH_NAMES < pieces.len() {
         return Err(LineFault::Kind(ScriptKind::Path));
     }
     all_names(alloc, pieces)

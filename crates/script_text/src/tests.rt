@@ -88,26 +88,29 @@ fn all_give(alloc: Global, lines: &[u8], want: Given) -> Result<bool, Fail> {
 }
 
 #[test]
-fn tells_lines(rt: HostRuntime) -> Result<(), Fail> {
-    assert!(rt; all_give(rt.alloc(), GOOD, Ok(1))?);
-    assert!(rt; all_give(rt.alloc(), NO_CALLER, Err((1, "caller")))?);
-    assert!(rt; all_give(rt.alloc(), NO_REQUEST, Err((1, "word")))?);
-    assert!(rt; all_give(rt.alloc(), NO_NUMBER, Err((1, "number")))?);
-    assert!(rt; all_give(rt.alloc(), NO_PATH, Err((1, "path")))?);
-    assert!(rt; all_give(rt.alloc(), NO_ESCAPE, Err((1, "escape")))?);
-    Ok(())
-}
-
-#[test]
 fn tells_scripts(rt: HostRuntime) -> Result<(), Fail> {
-    assert_eq!(rt; given(rt.alloc(), b"")?, Ok(0));
-    assert_eq!(rt; given(rt.alloc(), b"#\xff\n\n16 sync\n# x\n")?, Ok(1));
-    assert_eq!(rt; given(rt.alloc(), b"1 sync\n2 sync")?, Ok(2));
-    assert_eq!(rt;
-        given(rt.alloc(), b"#\n\n1 sync\n1 create a\n0 sync")?,
-        Err((4, "path"))
-    );
-    assert_eq!(rt; given(rt.alloc(), b"1 sync\n0 \xe9")?, Err((2, "utf8")));
+    let alloc = rt.alloc();
+    let lines: [(&[u8], Given); 6] = [
+        (GOOD, Ok(1)),
+        (NO_CALLER, Err((1, "caller"))),
+        (NO_REQUEST, Err((1, "word"))),
+        (NO_NUMBER, Err((1, "number"))),
+        (NO_PATH, Err((1, "path"))),
+        (NO_ESCAPE, Err((1, "escape"))),
+    ];
+    for (lines, want) in lines {
+        assert!(rt; all_give(alloc, lines, want)?);
+    }
+    let scripts: [(&[u8], Given); 5] = [
+        (b"", Ok(0)),
+        (b"#\xff\n\n16 sync\n# x\n", Ok(1)),
+        (b"1 sync\n2 sync", Ok(2)),
+        (b"#\n\n1 sync\n1 create a\n0 sync", Err((4, "path"))),
+        (b"1 sync\n0 \xe9", Err((2, "utf8"))),
+    ];
+    for (script, want) in scripts {
+        assert_eq!(rt; given(alloc, script)?, want);
+    }
     Ok(())
 }
 
@@ -127,44 +130,5 @@ fn reads_a_line(rt: HostRuntime) -> Result<(), Fail> {
     assert_eq!(rt; *offset, 7);
     assert!(rt; *text == Text::new(rt.alloc(), b"x\0")?);
     script_law();
-    Ok(())
-}
-
-#[test]
-fn counts_all_lines(rt: HostRuntime) -> Result<(), Fail> {
-    let mut script = Vec::new(rt.alloc());
-    for _ in 0..65_535 {
-        script.push(b'\n')?;
-    }
-    script.extend_from_slice(b"1 sync")?;
-    assert_eq!(rt; given(rt.alloc(), script.as_slice())?, Ok(1));
-    script.push(b'\n')?;
-    assert_eq!(rt; given(rt.alloc(), script.as_slice())?, Ok(1));
-    script.push(b'#')?;
-    assert_eq!(rt;
-        given(rt.alloc(), script.as_slice())?,
-        Err((65_537, "lines"))
-    );
-    Ok(())
-}
-
-#[test]
-fn limits_texts_and_paths(rt: HostRuntime) -> Result<(), Fail> {
-    let mut script = Vec::new(rt.alloc());
-    script.extend_from_slice(b"1 write /a 0 ")?;
-    for _ in 0..65_536 {
-        script.push(b'x')?;
-    }
-    assert_eq!(rt; given(rt.alloc(), script.as_slice())?, Ok(1));
-    script.push(b'x')?;
-    assert_eq!(rt; given(rt.alloc(), script.as_slice())?, Err((1, "path")));
-    script.clear();
-    script.extend_from_slice(b"1 create ")?;
-    for _ in 0..64 {
-        script.extend_from_slice(b"/a")?;
-    }
-    assert_eq!(rt; given(rt.alloc(), script.as_slice())?, Ok(1));
-    script.extend_from_slice(b"/a")?;
-    assert_eq!(rt; given(rt.alloc(), script.as_slice())?, Err((1, "path")));
     Ok(())
 }

@@ -5,10 +5,8 @@ ghost use Rattle.script_text.specs.Paths.{content_of};
 
 use crate::fault::{LineFault, ScriptKind};
 use blk_base::Text;
+use blk_base::limits::MOST_WRITTEN_BYTES;
 use std::alloc::Global;
-
-/// The most bytes that a text has.
-const LONGEST: usize = 65_536;
 
 /// Where the reading of a text word stands.
 #[derive(Clone, Copy)]
@@ -89,7 +87,7 @@ pub(crate) fn content(alloc: Global, word: &[u8]) -> Result<Text, LineFault>
     ensures { Gives (λ text. text) result (content_of word.now) }
 {
     let bytes = text(alloc, word)?;
-    if bytes.is_empty() || LONGEST < bytes.len() {
+    if bytes.is_empty() || MOST_WRITTEN_BYTES < bytes.len() {
         return Err(LineFault::Kind(ScriptKind::Path));
     }
     Ok(Text::new(alloc, bytes.as_slice())?)

@@ -10,8 +10,8 @@ use Rattle.block_table.specs.declared.state.SlotState.TheVariants.{Free, Dirty}
 use Rattle.block_table.specs.Slot.{BlockSlot, free_slot, dirty_slot, is_free}
 use Rattle.block_table.specs.Table.{Table, slot_at, state_at, with_slot, with_spare, free_blocks, free_one, is_free_block}
 use Rattle.block_table.specs.TreeIn.{block_at}
-use Rattle.block_table.specs.Counts.{free_one-taken, free_one-free}
-use Rattle.block_table.specs.Laws.{slot_at-with_slot_same, slot_at-with_slot_other, free_blocks-with_slot}
+use Rattle.block_table.proofs.Counts.{free_one-taken, free_one-free}
+use Rattle.block_table.proofs.Laws.{slot_at-with_slot_same, slot_at-with_slot_other, free_blocks-with_slot}
 use Rattle.block_table.proofs.Kept.{IsFound, found}
 use Rattle.tree_blocks.specs.Steps.{IsSameBut}
 

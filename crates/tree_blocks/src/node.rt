@@ -12,6 +12,7 @@ use crate::fresh::fresh;
 use crate::within_node::{
     insert_pointer, join_pointers, remove_pointer, set_pointer, split_pointers,
 };
+use blk_base::format::MOST_POINTERS;
 use blk_base::{Addr, Key};
 use block_table::BlockTable;
 
@@ -27,7 +28,7 @@ pub fn node_insert(
 )
     requires node { IsDirtyNode table.old at.0 }
     requires order { IsPlace (pointer_keys (node_at table.old at.0)) key place }
-    requires room { length (node_at table.old at.0) < 121 }
+    requires room { length (node_at table.old at.0) < MOST_POINTERS }
     ensures pointers { node_at table.new at.0 ≡ insert (node_at table.old at.0) place (record { key = key; at = child.0; generation = generation }) }
     ensures node { IsDirtyNode table.new at.0 }
     ensures kept { HasNewBytes table.old table.new at.0 }
@@ -95,7 +96,7 @@ pub fn node_join(table: &mut BlockTable, left: Addr, right: Addr)
     requires other_node { IsDirtyNode table.old right.0 }
     requires apart { left ≢ right }
     requires allowed { IsAllowed (length table.old.slots) right.0 }
-    requires room { length (node_at table.old left.0) + length (node_at table.old right.0) ≤ 121 }
+    requires room { length (node_at table.old left.0) + length (node_at table.old right.0) ≤ MOST_POINTERS }
     requires order { keys_rise (pointer_keys (node_at table.old left.0 ++ node_at table.old right.0)) ≡ true }
     ensures pointers { node_at table.new left.0 ≡ node_at table.old left.0 ++ node_at table.old right.0 }
     ensures node { IsDirtyNode table.new left.0 }

@@ -6,6 +6,7 @@ ghost use Rattle.leaf_edit.specs.Written.{data_at};
 ghost use Rattle.block_table.specs.Table.{state_at};
 ghost use Rattle.tree_blocks.specs.Steps.{IsLeafAt, IsNodeAt, leaf_at, node_at};
 
+use blk_base::format::{ITEM_HEADER_SIZE, LEAF_BYTES, MOST_POINTERS};
 use blk_base::{Addr, Key};
 use block_table::{BlockTable, SlotState};
 use leaf_edit::LeafMut;
@@ -49,7 +50,7 @@ pub fn leaf_room(table: &BlockTable, at: Addr) -> usize
     requires taken { state_at table.now at ≢ SlotState.Free }
     requires leaf { IsLeafAt table.now at.0 }
     ensures value { result ≡ room_of (leaf_at table.now at.0) }
-    ensures fits { 25 * length (leaf_at table.now at.0) + data_of (leaf_at table.now at.0) ≤ 3995 }
+    ensures fits { ITEM_HEADER_SIZE * length (leaf_at table.now at.0) + data_of (leaf_at table.now at.0) ≤ LEAF_BYTES }
 {
     let mut copy = *table.block(at);
     LeafMut::edit(&mut copy).room()
@@ -108,7 +109,7 @@ pub fn node_len(table: &BlockTable, at: Addr) -> usize
     requires node { IsNodeAt table.now at.0 }
     ensures value { result ≡ length (node_at table.now at.0) }
     ensures least { 1 ≤ result }
-    ensures most { result ≤ 121 }
+    ensures most { result ≤ MOST_POINTERS }
 {
     NodeView::of_body(table.block(at)).len()
 }

@@ -1,5 +1,5 @@
 ghost use Rattle.std.specs.Prelude.{IsTrue};
-ghost use Rattle.tree_blocks.specs.Steps.{IsDirtyLeaf, IsDirtyNode};
+ghost use Rattle.tree_blocks.specs.Steps.{IsDirtyLeaf};
 
 use super::*;
 use blk_base::{Addr, Block, Key};
@@ -15,26 +15,11 @@ fn key_of(offset: u64) -> Key {
     }
 }
 
-fn child_of(number: u64) -> Child {
-    Child {
-        key: key_of(number),
-        at: Addr(number),
-        generation: 7,
-    }
-}
-
 /// Whether a block is Dirty with a leaf.
 fn is_dirty_leaf(table: &BlockTable, at: Addr) -> bool
     ensures { IsTrue result → IsDirtyLeaf table.now at.0 }
 {
     table.state(at) == SlotState::Dirty && is_leaf(table, at)
-}
-
-/// Whether a block is Dirty with a node.
-fn is_dirty_node(table: &BlockTable, at: Addr) -> bool
-    ensures { IsTrue result → IsDirtyNode table.now at.0 }
-{
-    table.state(at) == SlotState::Dirty && is_node(table, at)
 }
 
 /// Puts an item in where its key belongs.
@@ -49,17 +34,6 @@ fn put(rt: &impl Abort, table: &mut BlockTable, at: Addr, offset: u64, bytes: &[
     }
 }
 
-/// Puts a pointer in where its key belongs.
-fn put_child(rt: &impl Abort, table: &mut BlockTable, at: Addr, number: u64) {
-    assert!(rt; is_dirty_node(table, at));
-    assert!(rt; node_len(table, at) < 121);
-    let key = key_of(number);
-    match node_find(table, at, &key) {
-        Ok(_) => assert!(rt; false),
-        Err(place) => node_insert(table, at, place, key, Addr(number), 7),
-    }
-}
-
 /// The offsets of a leaf's keys, as digits.
 fn offsets(rt: &impl Abort, table: &BlockTable, at: Addr) -> u64 {
     assert!(rt; is_dirty_leaf(table, at));
@@ -68,18 +42,6 @@ fn offsets(rt: &impl Abort, table: &BlockTable, at: Addr) -> u64 {
         digits = digits
             .wrapping_mul(10)
             .wrapping_add(leaf_key(table, at, place).offset);
-    }
-    digits
-}
-
-/// The offsets of a node's keys, as digits.
-fn numbers(rt: &impl Abort, table: &BlockTable, at: Addr) -> u64 {
-    assert!(rt; is_dirty_node(table, at));
-    let mut digits: u64 = 0;
-    for place in 0..node_len(table, at) {
-        digits = digits
-            .wrapping_mul(10)
-            .wrapping_add(node_key(table, at, place).offset);
     }
     digits
 }
@@ -118,31 +80,6 @@ fn remove(rt: &impl Abort, table: &mut BlockTable, at: Addr, place: usize) {
     leaf_remove(table, at, place);
 }
 
-/// The first four bytes of an item's data.
-fn first_bytes(rt: &impl Abort, table: &BlockTable, at: Addr, place: usize) -> [u8; 4] {
-    assert!(rt; is_dirty_leaf(table, at));
-    assert!(rt; place < leaf_len(table, at));
-    let data = leaf_data(table, at, place);
-    assert!(rt; data.len() == 4);
-    [data[0], data[1], data[2], data[3]]
-}
-
-/// Writes over a part of an item's data.
-fn put_data(
-    rt: &impl Abort,
-    table: &mut BlockTable,
-    at: Addr,
-    place: usize,
-    from: usize,
-    bytes: &[u8],
-) {
-    assert!(rt; is_dirty_leaf(table, at));
-    assert!(rt; place < leaf_len(table, at));
-    let data = leaf_data(table, at, place);
-    assert!(rt; bytes.len() <= data.len() && from <= data.len() - bytes.len());
-    leaf_put_data(table, at, place, from, bytes);
-}
-
 /// A leaf is filled, split, and joined again without an item.
 #[test]
 fn leaf_goes_round(rt: HostRuntime) -> Result<(), Fail> {
@@ -165,9 +102,6 @@ fn leaf_goes_round(rt: HostRuntime) -> Result<(), Fail> {
     assert_eq!(rt; offsets(&rt, &table, left), 13);
     assert_eq!(rt; table.state(right), SlotState::Free);
     assert_eq!(rt; counts(&table), (2, 4078));
-    put_data(&rt, &mut table, left, 1, 2, b"ek");
-    assert_eq!(rt; first_bytes(&rt, &table, left, 0), *b"data");
-    assert_eq!(rt; first_bytes(&rt, &table, left, 1), *b"daek");
     Ok(())
 }
 
@@ -207,72 +141,4 @@ fn take_over(rt: &impl Abort, table: &mut BlockTable, at: Addr) -> Addr {
     assert!(rt; table.spare() >= 1);
     assert!(rt; table.free_count() >= 1);
     own(table, at)
-}
-
-fn make_node(rt: &impl Abort, table: &mut BlockTable, first: Child, second: Child) -> Addr {
-    assert!(rt; first.key < second.key);
-    assert!(rt; table.spare() >= 1);
-    assert!(rt; table.free_count() >= 1);
-    new_node(table, first, second)
-}
-
-fn split_node(rt: &impl Abort, table: &mut BlockTable, at: Addr, place: usize) -> Addr {
-    assert!(rt; table.spare() >= 1);
-    assert!(rt; table.free_count() >= 1);
-    assert!(rt; is_dirty_node(table, at));
-    assert!(rt; place >= 1);
-    assert!(rt; place < node_len(table, at));
-    node_split(table, at, place)
-}
-
-fn join_nodes(rt: &impl Abort, table: &mut BlockTable, left: Addr, right: Addr) {
-    assert!(rt; left != right);
-    assert!(rt; table.is_allowed(right));
-    assert!(rt; is_dirty_node(table, left));
-    assert!(rt; is_dirty_node(table, right));
-    assert!(rt; node_follows(table, left, right));
-    assert!(rt; node_len(table, left) + node_len(table, right) <= 121);
-    node_join(table, left, right);
-}
-
-fn set_child(rt: &impl Abort, table: &mut BlockTable, at: Addr, place: usize, child: Addr) {
-    assert!(rt; is_dirty_node(table, at));
-    assert!(rt; place < node_len(table, at));
-    node_set_child(table, at, place, child, 8);
-}
-
-fn child(rt: &impl Abort, table: &BlockTable, at: Addr, place: usize) -> (Addr, u64) {
-    assert!(rt; is_dirty_node(table, at));
-    assert!(rt; place < node_len(table, at));
-    node_child(table, at, place)
-}
-
-fn remove_child(rt: &impl Abort, table: &mut BlockTable, at: Addr, place: usize) {
-    assert!(rt; is_dirty_node(table, at));
-    assert!(rt; place < node_len(table, at) && node_len(table, at) >= 2);
-    node_remove(table, at, place);
-}
-
-/// A node is made, changed, split, and joined again without a pointer.
-#[test]
-fn node_goes_round(rt: HostRuntime) -> Result<(), Fail> {
-    let mut table = BlockTable::new(rt.alloc(), 4096)?;
-    table.reserve(rt.alloc(), 3)?;
-    let left = make_node(&rt, &mut table, child_of(2), child_of(4));
-    put_child(&rt, &mut table, left, 3);
-    assert_eq!(rt; numbers(&rt, &table, left), 234);
-    set_child(&rt, &mut table, left, 1, Addr(9));
-    assert_eq!(rt; child(&rt, &table, left, 1), (Addr(9), 8));
-    assert_eq!(rt; child(&rt, &table, left, 2), (Addr(4), 7));
-    let right = split_node(&rt, &mut table, left, 1);
-    assert_eq!(rt;
-        (numbers(&rt, &table, left), numbers(&rt, &table, right)),
-        (2, 34)
-    );
-    assert_eq!(rt; counts(&table), (1, 4077));
-    remove_child(&rt, &mut table, right, 0);
-    join_nodes(&rt, &mut table, left, right);
-    assert_eq!(rt; numbers(&rt, &table, left), 24);
-    assert_eq!(rt; counts(&table), (2, 4078));
-    Ok(())
 }

@@ -6,6 +6,7 @@ ghost use Rattle.node_edit.specs.Pointers.{with_child};
 ghost use Rattle.tree_blocks.specs.Lists.{IsNodeBlock, node_list, pointer_to};
 
 use crate::child::Child;
+use blk_base::format::MOST_POINTERS;
 use blk_base::{Addr, Block, Key};
 use node_edit::NodeMut;
 
@@ -29,7 +30,7 @@ pub(crate) fn insert_pointer(
 )
     requires node { IsNodeBlock block.old }
     requires order { IsPlace (pointer_keys (node_list block.old)) key place }
-    requires room { length (node_list block.old) < 121 }
+    requires room { length (node_list block.old) < MOST_POINTERS }
     ensures { node_body_of block.new ≡ Ok (insert (node_list block.old) place (record { key = key; at = child.0; generation = generation })) }
 {
     let mut node = NodeMut::edit(block);
@@ -75,7 +76,7 @@ pub(crate) fn split_pointers(block: &mut Block, back: &mut Block, place: usize)
 pub(crate) fn join_pointers(block: &mut Block, back: &mut Block)
     requires node { IsNodeBlock block.old }
     requires back { IsNodeBlock back.old }
-    requires room { length (node_list block.old) + length (node_list back.old) ≤ 121 }
+    requires room { length (node_list block.old) + length (node_list back.old) ≤ MOST_POINTERS }
     requires order { keys_rise (pointer_keys (node_list block.old ++ node_list back.old)) ≡ true }
     ensures { node_body_of block.new ≡ Ok (node_list block.old ++ node_list back.old) }
 {

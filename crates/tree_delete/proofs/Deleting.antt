@@ -12,7 +12,8 @@ use Rattle.blk_base.specs.Keys.{keys_rise}
 use Rattle.blk_base.specs.Leaf.{Item, Pointer}
 use Rattle.block_table.specs.declared.state.SlotState.TheVariants.{Free, Dirty, LetGo}
 use Rattle.block_table.specs.Table.{Table}
-use Rattle.block_table.specs.TreeIn.{IsSealedSubtree, IsTaken, ItemsRise, NoneTwice, block_at, first_key}
+use Rattle.blk_base.specs.Trees.{ItemsRise, NoneTwice, first_key}
+use Rattle.block_table.specs.TreeIn.{IsSealedSubtree, IsTaken, block_at}
 use Rattle.leaf_view.specs.Search.{IsPlace, children_of, keys_of, pointer_keys}
 use Rattle.tree_range.specs.Shape.{items_below, leaf_items, node_pointers, reach_below}
 use Rattle.tree_range.specs.Path.{IsChildPlace, key_behind}
@@ -26,11 +27,11 @@ use Rattle.tree_delete.specs.Seals.{IsSealedRow, want_of}
 use Rattle.tree_delete.specs.Ahead.{IsBetween, TakesAhead, copies_of, nodes_ahead, row_ahead}
 use Rattle.tree_delete.specs.Rows.{HasItemBelow, IsChildOf, IsLessNode, IsNodeOver, row_items, row_reach}
 use Rattle.tree_delete.specs.Steps.{IsCurrentNode}
-use Rattle.tree_frame.proofs.Members.{in_nothing}
+use Rattle.blk_base.proofs.Members.{in_nothing}
 use Rattle.tree_delete.proofs.Seals.{dirty_leaf_sealed, dirty_node_sealed, sealed_children}
 use Rattle.tree_delete.proofs.Ahead.{dirty_ahead, leaves_ahead, node_ahead, takes_one}
 use Rattle.tree_delete.proofs.Blocks.{node_same}
-use Rattle.tree_delete.proofs.Cuts.{at_cut, length_at}
+use Rattle.tree_range.proofs.Cuts.{at_cut, length_at}
 use Rattle.tree_delete.proofs.Edits.{takes_join, takes_more}
 use Rattle.tree_delete.proofs.Items.{rise_without}
 use Rattle.tree_delete.proofs.Nodes.{IsKid, child_of_kid}

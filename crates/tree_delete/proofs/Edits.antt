@@ -7,11 +7,12 @@ use Rattle.block_table.specs.declared.state.SlotState.{SlotState}
 use Rattle.block_table.specs.declared.state.SlotState.TheVariants.{Free, Dirty, LetGo}
 use Rattle.block_table.specs.Slot.{BlockSlot}
 use Rattle.block_table.specs.Table.{Table}
-use Rattle.block_table.specs.TreeIn.{NoneTwice, block_at}
+use Rattle.blk_base.specs.Trees.{NoneTwice}
+use Rattle.block_table.specs.TreeIn.{block_at}
 use Rattle.tree_range.specs.Shape.{AreAlike}
 use Rattle.tree_range.specs.Part.{times_in}
 use Rattle.tree_frame.specs.Frame.{AreCurrent, AreFree, IsEdit, IsLeft, TakesAtMost}
-use Rattle.tree_frame.proofs.Members.{is_in}
+use Rattle.blk_base.proofs.Members.{is_in}
 use Rattle.tree_delete.proofs.Lists.{IsShuffle, all_from, contained_by_times, none_twice_from, none_twice_to, parts_apart, shuffle_back, shuffle_contains, times_append}
 
 abbrev state_of : BlockSlot → SlotState

@@ -11,7 +11,8 @@ use Rattle.blk_base.specs.Keys.{KeyBelow, keys_rise}
 use Rattle.blk_base.specs.Leaf.{Pointer}
 use Rattle.block_table.specs.declared.state.SlotState.TheVariants.{Free, LetGo}
 use Rattle.block_table.specs.Table.{Table, free_blocks}
-use Rattle.block_table.specs.TreeIn.{NoneTwice, block_at}
+use Rattle.blk_base.specs.Trees.{NoneTwice}
+use Rattle.block_table.specs.TreeIn.{block_at}
 use Rattle.leaf_view.specs.KeyOrder.{KeyBelow_trans}
 use Rattle.leaf_view.specs.Search.{IsPlace, children_of, pointer_keys}
 use Rattle.node_edit.specs.Pointers.{with_child}
@@ -23,7 +24,7 @@ use Rattle.tree_blocks.proofs.Orders.{node_rise, pointer_keys-append}
 use Rattle.tree_frame.specs.Frame.{IsEdit}
 use Rattle.tree_delete.specs.Steps.{HasPair, IsDirtyPair, IsEven, IsPair, IsShared, ats_of}
 use Rattle.tree_frame.proofs.EditLaws.{edits_join}
-use Rattle.tree_delete.proofs.Cuts.{All-unmap, at_cut}
+use Rattle.tree_range.proofs.Cuts.{All-unmap, at_cut}
 use Rattle.tree_delete.proofs.Edits.{IsCarried, IsWhole, carry}
 use Rattle.tree_delete.proofs.Lists.{contains_behind, contains_first, contains_two, times_append}
 use Rattle.tree_delete.proofs.Pairs.{dirty_node, node_most, keys_before, one_once, place_between, same_allowed, same_dirty, same_node, two_once}

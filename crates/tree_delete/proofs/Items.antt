@@ -7,7 +7,7 @@ use Rattle.std.proofs.lemmas.List.Elements.{All-nil, All-cons, All-head, All-tai
 use Rattle.blk_base.specs.declared.key.Key.{Key}
 use Rattle.blk_base.specs.Keys.{KeyBelow, key_below}
 use Rattle.blk_base.specs.Leaf.{Item}
-use Rattle.block_table.specs.TreeIn.{ItemsRise}
+use Rattle.blk_base.specs.Trees.{ItemsRise}
 use Rattle.leaf_view.specs.KeyOrder.{KeyBelow_irrefl, KeyBelow_trans}
 use Rattle.leaf_view.specs.Search.{IsPlace, keys_of}
 use Rattle.leaf_view.proofs.Rising.{key_below_from, key_below_means}
@@ -15,7 +15,7 @@ use Rattle.tree_range.specs.Between.{AreAbove, AreBelow, data_under, has_key}
 use Rattle.tree_range.proofs.Rise.{rise_before, rise_head, rise_right, rise_tail}
 use Rattle.tree_range.proofs.Under.{filter_all, filter_none, has_key_means, none_above, none_below, not_below, under_none, under_past}
 use Rattle.tree_frame.specs.Frame.{without_item}
-use Rattle.tree_delete.proofs.Cuts.{cut_at, mapped_at, All-unmap}
+use Rattle.tree_range.proofs.Cuts.{cut_at, mapped_at, All-unmap}
 
 abbrev is_below : Key → Item → Bool
 is_below key item = key_below item.0 key

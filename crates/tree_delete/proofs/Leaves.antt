@@ -8,7 +8,8 @@ use Rattle.blk_base.specs.declared.key.Key.{Key}
 use Rattle.blk_base.specs.Leaf.{Item}
 use Rattle.block_table.specs.declared.state.SlotState.TheVariants.{Dirty}
 use Rattle.block_table.specs.Table.{Table, free_blocks}
-use Rattle.block_table.specs.TreeIn.{ItemsRise, block_at}
+use Rattle.blk_base.specs.Trees.{ItemsRise}
+use Rattle.block_table.specs.TreeIn.{block_at}
 use Rattle.leaf_view.specs.Search.{IsPlace, keys_of}
 use Rattle.tree_range.specs.Shape.{IsSubtree, leaf_items}
 use Rattle.tree_range.specs.Between.{data_under}

@@ -1,9 +1,7 @@
-pub mod Cuts
 pub mod Lists
 pub mod Edits
 pub mod Blocks
 pub mod Items
-pub mod Places
 pub mod Ahead
 pub mod Seals
 pub mod Rows

@@ -4,9 +4,9 @@ use Rattle.std.specs.Prelude.{All, Contains, ◌==◌, if◌then◌else◌, slic
 use Rattle.std.proofs.lemmas.Bool.{cases_Bool, cases_lt, eqb-true, eq-eqb}
 use Rattle.std.proofs.lemmas.List.Elements.{All-contains, Contains-get_or, Contains-append_cases}
 use Rattle.std.proofs.lemmas.Option.{slice_get-get_or}
-use Rattle.block_table.specs.TreeIn.{NoneTwice}
+use Rattle.blk_base.specs.Trees.{NoneTwice}
 use Rattle.tree_range.specs.Part.{times_in}
-use Rattle.tree_frame.proofs.Members.{in_one, in_tail}
+use Rattle.blk_base.proofs.Members.{in_one, in_tail}
 
 pub times_append : (at : ℕ) (xs ys : List ℕ) → times_in at (xs ++ ys) ≡ times_in at xs + times_in at ys
 times_append at [] ys = omega arith

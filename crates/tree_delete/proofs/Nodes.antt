@@ -12,7 +12,8 @@ use Rattle.blk_base.specs.Keys.{KeyBelow, keys_rise}
 use Rattle.blk_base.specs.Leaf.{Item, Pointer}
 use Rattle.block_table.specs.declared.state.SlotState.TheVariants.{Dirty, LetGo}
 use Rattle.block_table.specs.Table.{Table}
-use Rattle.block_table.specs.TreeIn.{IsSealedSubtree, ItemsRise, NoneTwice, block_at, first_key}
+use Rattle.blk_base.specs.Trees.{ItemsRise, NoneTwice, first_key}
+use Rattle.block_table.specs.TreeIn.{IsSealedSubtree, block_at}
 use Rattle.leaf_view.specs.Search.{pointer_keys}
 use Rattle.tree_range.specs.Shape.{AreAlike, items_below, node_pointers, reach_below}
 use Rattle.tree_range.specs.Part.{times_in}

@@ -13,7 +13,8 @@ use Rattle.blk_base.specs.Leaf.{Pointer}
 use Rattle.block_table.specs.declared.state.SlotState.TheVariants.{Free, Dirty, LetGo}
 use Rattle.block_table.specs.Slot.{BlockSlot, free_slot}
 use Rattle.block_table.specs.Table.{Table, free_blocks}
-use Rattle.block_table.specs.TreeIn.{NoneTwice, block_at}
+use Rattle.blk_base.specs.Trees.{NoneTwice}
+use Rattle.block_table.specs.TreeIn.{block_at}
 use Rattle.leaf_view.specs.KeyOrder.{KeyBelow_trans}
 use Rattle.leaf_view.specs.Search.{IsPlace, children_of, pointer_keys}
 use Rattle.leaf_view.proofs.NodeLaws.{node_body_means}
@@ -26,11 +27,11 @@ use Rattle.tree_blocks.proofs.Orders.{pointer_keys-append}
 use Rattle.tree_frame.specs.Frame.{IsEdit}
 use Rattle.tree_delete.specs.Steps.{IsCurrentNode, IsDirtyPair, IsOwnedPair, IsPair, IsShared}
 use Rattle.tree_frame.proofs.EditLaws.{edits_join}
-use Rattle.tree_frame.proofs.Members.{in_nothing, in_one}
+use Rattle.blk_base.proofs.Members.{in_nothing, in_one}
 use Rattle.tree_frame.proofs.StepLaws.{join_is_an_edit, new_bytes_are_an_edit}
 use Rattle.tree_delete.proofs.Ahead.{takes_one}
 use Rattle.tree_delete.proofs.Blocks.{IsOwned}
-use Rattle.tree_delete.proofs.Cuts.{cut_at, at_within}
+use Rattle.tree_range.proofs.Cuts.{cut_at, at_within}
 use Rattle.tree_delete.proofs.Edits.{IsWhole, carry}
 use Rattle.tree_delete.proofs.Lists.{contains_first, times_append}
 

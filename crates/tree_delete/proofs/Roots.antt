@@ -11,7 +11,8 @@ use Rattle.blk_base.specs.Leaf.{Item, Pointer}
 use Rattle.block_table.specs.declared.state.SlotState.TheVariants.{Free, Dirty}
 use Rattle.block_table.specs.declared.tree.Tree.{Tree}
 use Rattle.block_table.specs.Table.{Table}
-use Rattle.block_table.specs.TreeIn.{IsSealedSubtree, IsSealedTree, ItemsRise, NoneTwice, block_at}
+use Rattle.blk_base.specs.Trees.{ItemsRise, NoneTwice}
+use Rattle.block_table.specs.TreeIn.{IsSealedSubtree, IsSealedTree, block_at}
 use Rattle.leaf_view.specs.Search.{children_of}
 use Rattle.tree_range.specs.Shape.{IsSubtree, IsTree, items_below, leaf_items, node_pointers, reach_below, tree_items, tree_reach}
 use Rattle.tree_range.specs.Between.{data_under}

@@ -9,7 +9,8 @@ use Rattle.blk_base.specs.declared.key.Key.{Key}
 use Rattle.blk_base.specs.Keys.{KeyBelow, keys_rise}
 use Rattle.blk_base.specs.Leaf.{Item, Pointer, node_body_of}
 use Rattle.block_table.specs.Table.{Table}
-use Rattle.block_table.specs.TreeIn.{ItemsRise, block_at, first_key, least_pointers}
+use Rattle.blk_base.specs.Trees.{ItemsRise, first_key, least_pointers}
+use Rattle.block_table.specs.TreeIn.{block_at}
 use Rattle.leaf_view.specs.KeyOrder.{KeyBelow_trans}
 use Rattle.leaf_view.specs.Search.{pointer_keys}
 use Rattle.leaf_view.proofs.Rising.{key_below_from}

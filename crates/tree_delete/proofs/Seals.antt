@@ -9,7 +9,8 @@ use Rattle.blk_base.specs.Leaf.{Pointer, HeaderFits, IsNodeBody, node_body_of}
 use Rattle.block_table.specs.declared.state.SlotState.TheVariants.{Dirty}
 use Rattle.block_table.specs.Slot.{BlockSlot}
 use Rattle.block_table.specs.Table.{Table}
-use Rattle.block_table.specs.TreeIn.{IsSealedBlock, IsSealedSubtree, block_at, child_want}
+use Rattle.blk_base.specs.Trees.{child_want}
+use Rattle.block_table.specs.TreeIn.{IsSealedBlock, IsSealedSubtree, block_at}
 use Rattle.leaf_view.proofs.NodeLaws.{node_body_from, node_body_means}
 use Rattle.tree_range.specs.Shape.{AreAlike, listed, node_pointers, reach_below}
 use Rattle.tree_range.proofs.Bodies.{node_pointers_are}

@@ -7,7 +7,8 @@ use Rattle.blk_base.specs.declared.key.Key.{Key}
 use Rattle.blk_base.specs.Leaf.{Item, Pointer}
 use Rattle.block_table.specs.declared.state.SlotState.TheVariants.{Free, LetGo}
 use Rattle.block_table.specs.Table.{Table}
-use Rattle.block_table.specs.TreeIn.{IsSealedSubtree, IsTaken, ItemsRise, NoneTwice, block_at, first_key}
+use Rattle.blk_base.specs.Trees.{ItemsRise, NoneTwice, first_key}
+use Rattle.block_table.specs.TreeIn.{IsSealedSubtree, IsTaken, block_at}
 use Rattle.tree_range.specs.Shape.{AreAlike, items_below, node_pointers, reach_below}
 use Rattle.tree_range.specs.Between.{AreAbove, AreBelow, data_under}
 use Rattle.tree_range.specs.Part.{times_in}
@@ -18,7 +19,7 @@ use Rattle.tree_delete.specs.Seals.{IsSealedRow, want_of}
 use Rattle.tree_delete.specs.Ahead.{IsBetween, TakesAhead, nodes_ahead, row_ahead}
 use Rattle.tree_delete.specs.Rows.{HasItemBelow, IsChildOf, row_items, row_leaves, row_reach}
 use Rattle.tree_frame.proofs.EditLaws.{edits_join}
-use Rattle.tree_frame.proofs.Members.{in_nothing}
+use Rattle.blk_base.proofs.Members.{in_nothing}
 use Rattle.tree_frame.proofs.Reading.{reach_taken}
 use Rattle.tree_delete.proofs.Lists.{times_append, none_twice_from, none_twice_to}
 use Rattle.tree_delete.proofs.Edits.{IsCarried, IsWhole, carry}

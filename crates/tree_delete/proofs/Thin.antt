@@ -9,7 +9,8 @@ use Rattle.blk_base.specs.Address.{IsAllowed}
 use Rattle.blk_base.specs.Leaf.{Pointer}
 use Rattle.block_table.specs.declared.state.SlotState.TheVariants.{Dirty}
 use Rattle.block_table.specs.Table.{Table}
-use Rattle.block_table.specs.TreeIn.{ItemsRise, block_at, first_key}
+use Rattle.blk_base.specs.Trees.{ItemsRise, first_key}
+use Rattle.block_table.specs.TreeIn.{block_at}
 use Rattle.leaf_view.proofs.NodeLaws.{node_body_means}
 use Rattle.tree_range.specs.Shape.{AreAlike, items_below, node_pointers, reach_below}
 use Rattle.tree_range.proofs.Bodies.{node_body_is}
@@ -24,7 +25,7 @@ use Rattle.tree_delete.specs.Steps.{HasPair, IsRepaired}
 use Rattle.tree_frame.proofs.EditLaws.{edits_join}
 use Rattle.tree_delete.proofs.Ahead.{dirty_ahead, node_ahead, takes_one}
 use Rattle.tree_delete.proofs.Blocks.{node_same}
-use Rattle.tree_delete.proofs.Cuts.{at_within, cut_at, cut_same, length_cut, length_at}
+use Rattle.tree_range.proofs.Cuts.{at_within, cut_at, cut_same, length_cut, length_at}
 use Rattle.tree_delete.proofs.Edits.{IsWhole, takes_join, takes_more}
 use Rattle.tree_delete.proofs.Items.{rise_without}
 use Rattle.tree_delete.proofs.Nodes.{IsKid, IsKidPair, has_pair, kid_alike, kid_of, made_count, node_even}

@@ -7,7 +7,8 @@ use Rattle.blk_base.specs.Leaf.{Item, Pointer, node_body_of}
 use Rattle.block_table.specs.declared.state.SlotState.TheVariants.{Dirty}
 use Rattle.block_table.specs.declared.tree.Tree.{Tree}
 use Rattle.block_table.specs.Table.{Table}
-use Rattle.block_table.specs.TreeIn.{IsSealedTree, IsTaken, ItemsRise, NoneTwice, block_at, first_key}
+use Rattle.blk_base.specs.Trees.{ItemsRise, NoneTwice, first_key}
+use Rattle.block_table.specs.TreeIn.{IsSealedTree, IsTaken, block_at}
 use Rattle.tree_range.specs.Shape.{IsSubtree, IsTree, items_below, node_pointers, reach_below, tree_items, tree_reach}
 use Rattle.tree_range.specs.Between.{data_under}
 use Rattle.tree_frame.specs.Frame.{AreCurrent, IsEdit, TakesAtMost, leaves_below, tree_leaves, without_item}

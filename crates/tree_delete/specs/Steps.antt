@@ -1,13 +1,15 @@
 -- Two children of a node that share their pointers.
 use Rattle.std.specs.Prelude.{◌≡◌, ◌≢◌, ◌≤◌, ◌+◌, ◌++◌, ◌⊎◌, ℕ, List, [], ◌∷◌, length, map, All, Some, None, true}
 use Rattle.std.specs.List.{flat_map}
+use Rattle.blk_base.specs.declared.limits.TheConstants.{LEAST_POINTERS}
 use Rattle.blk_base.specs.Address.{IsAllowed}
 use Rattle.blk_base.specs.Keys.{KeyBelow, keys_rise}
 use Rattle.blk_base.specs.Leaf.{Pointer}
 use Rattle.leaf_view.specs.Search.{pointer_keys}
 use Rattle.block_table.specs.declared.state.SlotState.TheVariants.{Free, Dirty, LetGo}
 use Rattle.block_table.specs.Table.{Table, free_blocks}
-use Rattle.block_table.specs.TreeIn.{NoneTwice, block_at}
+use Rattle.blk_base.specs.Trees.{NoneTwice}
+use Rattle.block_table.specs.TreeIn.{block_at}
 use Rattle.tree_range.specs.Path.{key_behind}
 use Rattle.tree_blocks.specs.Steps.{IsDirtyNode, IsNodeAt, node_at}
 use Rattle.tree_frame.specs.Frame.{IsEdit, TakesAtMost}
@@ -40,7 +42,7 @@ pub record TakesForMade (old new : Table) (made : ℕ) : Type 0 where
 -- two nodes side by side have become these, one or two, with the same pointers and 30 at least in each (own)
 pub record IsShared (old new : Table) (left right : ℕ) (made : List ℕ) : Type 0 where
   pub lists : flat_map (node_at new) made ≡ node_at old left ++ node_at old right
-  pub least : All (λ at. 30 ≤ length (node_at new at)) made
+  pub least : All (λ at. LEAST_POINTERS ≤ length (node_at new at)) made
   pub nodes : All (IsDirtyNode new) made
   pub allowed : All (λ at. IsAllowed (length new.slots) at) made
   pub once : NoneTwice made
@@ -75,7 +77,7 @@ pub record IsEven (old new : Table) (at place : ℕ) (pair : HasPair old at plac
   pub pointers : node_at new at ≡ pair.lefts ++ (made ++ pair.rights)
   pub lists : flat_map (λ (pointer : Pointer). node_at new pointer.at) made ≡ node_at old pair.left.at ++ node_at old pair.right.at
   pub nodes : All (λ (pointer : Pointer). IsDirtyNode new pointer.at) made
-  pub least : All (λ (pointer : Pointer). 30 ≤ length (node_at new pointer.at)) made
+  pub least : All (λ (pointer : Pointer). LEAST_POINTERS ≤ length (node_at new pointer.at)) made
   pub allowed : All (λ (pointer : Pointer). IsAllowed (length new.slots) pointer.at) made
   pub firsts : All (λ (pointer : Pointer). key_behind (node_at new pointer.at) None ≡ Some pointer.key) made
   pub some : 1 ≤ length made

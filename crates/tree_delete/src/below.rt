@@ -3,8 +3,9 @@ ghost use Rattle.block_table.specs.Table.{free_blocks};
 ghost use Rattle.tree_delete.specs.Rows.{HasItemBelow, IsLessNode};
 
 use crate::leaf::shrink_leaf;
-use crate::node::{LEAST_POINTERS, change_child, child_place, drop_child};
+use crate::node::{change_child, child_place, drop_child};
 use crate::pair::repair;
+use blk_base::limits::LEAST_POINTERS;
 use blk_base::{Addr, Key};
 use block_table::BlockTable;
 use tree_blocks::{leaf_key, node_child, node_key, node_len};

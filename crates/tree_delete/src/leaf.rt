@@ -2,7 +2,8 @@ ghost use Rattle.std.specs.Prelude.{◌≡◌, ◌≢◌, ◌≤◌, ◌+◌, �
 ghost use Rattle.std.specs.List.{flat_map};
 ghost use Rattle.block_table.specs.declared.state.SlotState.{SlotState};
 ghost use Rattle.block_table.specs.Table.{free_blocks, state_at};
-ghost use Rattle.block_table.specs.TreeIn.{ItemsRise, block_at};
+ghost use Rattle.blk_base.specs.Trees.{ItemsRise};
+ghost use Rattle.block_table.specs.TreeIn.{block_at};
 ghost use Rattle.tree_range.specs.Shape.{IsSubtree, leaf_items};
 ghost use Rattle.tree_range.specs.Between.{data_under};
 ghost use Rattle.tree_frame.specs.Frame.{IsEdit, TakesAtMost, without_item};

@@ -12,15 +12,6 @@ use blk_base::{Addr, Key};
 use block_table::BlockTable;
 use tree_blocks::{node_find, node_insert, node_remove, own};
 
-/// The most pointers of a node ("Internal Node").
-pub(crate) const MOST_POINTERS: usize = 121;
-
-/// The least pointers of a node that isn't the root (own).
-pub(crate) const LEAST_POINTERS: usize = 30;
-
-/// The least pointers of a root that is a node (own).
-pub(crate) const LEAST_IN_ROOT: usize = 2;
-
 /// The place of the child of a node under which a key belongs.
 pub(crate) fn child_place(table: &BlockTable, at: Addr, key: &Key) -> usize
     requires { IsCurrentNode table.now at.0 }

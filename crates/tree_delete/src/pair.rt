@@ -11,8 +11,8 @@ ghost use Rattle.tree_frame.specs.Frame.{IsEdit, TakesAtMost};
 ghost use Rattle.tree_delete.specs.Rows.{kept_of};
 ghost use Rattle.tree_delete.specs.Steps.{HasPair, IsDirtyPair, IsEven, IsOwnedPair, IsPair, IsRepaired, IsShared};
 
-use crate::node::MOST_POINTERS;
 use blk_base::Addr;
+use blk_base::format::MOST_POINTERS;
 use block_table::{BlockTable, SlotState};
 use tree_blocks::{
     node_child, node_insert, node_join, node_key, node_len, node_remove, node_set_child, own,
@@ -36,7 +36,7 @@ fn move_pointer(table: &mut BlockTable, from: Addr, place: usize, to: Addr, into
     requires pair { IsDirtyPair table.old from.0 to.0 }
     requires within { place < length (node_at table.old from.0) }
     requires least { 2 ≤ length (node_at table.old from.0) }
-    requires room { length (node_at table.old to.0) < 121 }
+    requires room { length (node_at table.old to.0) < MOST_POINTERS }
     requires order { (pointer : Pointer) → slice_get (node_at table.old from.0) place ≡ Some pointer → IsPlace (pointer_keys (node_at table.old to.0)) pointer.key into }
     ensures pair { IsDirtyPair table.new from.0 to.0 }
     ensures from { node_at table.new from.0 ≡ remove (node_at table.old from.0) place }
@@ -77,7 +77,7 @@ fn share(table: &mut BlockTable, left: Addr, right: Addr) -> (Addr, Option<Addr>
 /// Puts a pointer to a node in at a place of another node.
 fn put_right(table: &mut BlockTable, at: Addr, place: usize, right: Addr)
     requires pair { IsDirtyPair table.old at.0 right.0 }
-    requires room { length (node_at table.old at.0) < 121 }
+    requires room { length (node_at table.old at.0) < MOST_POINTERS }
     requires order { (first : Key) → key_behind (node_at table.old right.0) None ≡ Some first → IsPlace (pointer_keys (node_at table.old at.0)) first place }
     ensures node { IsDirtyNode table.new at.0 }
     ensures pointers { (first : Key) → key_behind (node_at table.old right.0) None ≡ Some first → node_at table.new at.0 ≡ insert (node_at table.old at.0) place (record { key = first; at = right.0; generation = 0 }) }

@@ -10,7 +10,7 @@ ghost use Rattle.tree_delete.specs.Rows.{IsLessTree};
 
 use crate::below::delete_below;
 use crate::leaf::delete_in_leaf;
-use crate::node::LEAST_IN_ROOT;
+use blk_base::limits::LEAST_ROOT_POINTERS;
 use blk_base::{Addr, Key};
 use block_table::{BlockTable, Tree};
 use tree_blocks::{node_child, node_len};
@@ -29,7 +29,7 @@ fn without(table: &mut BlockTable, tree: Tree, key: &Key) -> Tree
         return Tree { root, ..tree };
     }
     let root = delete_below(table, tree.level - 1, tree.root, key);
-    if node_len(table, root) >= LEAST_IN_ROOT {
+    if node_len(table, root) >= LEAST_ROOT_POINTERS {
         return Tree { root, ..tree };
     }
     let child = node_child(table, root, 0).0;

@@ -128,21 +128,6 @@ fn has(table: &BlockTable, tree: &Tree, number: u64) -> bool
 }
 
 #[test]
-fn nodes_are_joined_and_the_root_falls(rt: HostRuntime) -> Result<(), Fail> {
-    let mut table = BlockTable::new(rt.alloc(), 128)?;
-    table.reserve(rt.alloc(), 128)?;
-    build(&rt, &mut table, 30);
-    let mut tree = TREE;
-    assert!(rt; is_tree(&table, &tree) && none_let_go(&table));
-    take_out(&rt, &mut table, &mut tree, 1);
-    assert!(rt; tree.level == 2 && !has(&table, &tree, 1) && has(&table, &tree, 0));
-    take_out(&rt, &mut table, &mut tree, 0);
-    assert!(rt; tree.level == 1 && !has(&table, &tree, 0) && has(&table, &tree, 2));
-    assert!(rt; has(&table, &tree, 119));
-    Ok(())
-}
-
-#[test]
 fn a_pointer_is_borrowed(rt: HostRuntime) -> Result<(), Fail> {
     let mut table = BlockTable::new(rt.alloc(), 192)?;
     table.reserve(rt.alloc(), 192)?;

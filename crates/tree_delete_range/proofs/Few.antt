@@ -11,7 +11,8 @@ use Rattle.blk_base.specs.Keys.{KeyBelow, key_below}
 use Rattle.blk_base.specs.Leaf.{Item, Pointer}
 use Rattle.block_table.specs.declared.tree.Tree.{Tree}
 use Rattle.block_table.specs.Table.{Table}
-use Rattle.block_table.specs.TreeIn.{ItemsRise, block_at, first_key, least_pointers}
+use Rattle.blk_base.specs.Trees.{ItemsRise, first_key, least_pointers}
+use Rattle.block_table.specs.TreeIn.{block_at}
 use Rattle.leaf_view.specs.KeyOrder.{KeyBelow_trans}
 use Rattle.leaf_view.proofs.Rising.{key_below_from, key_below_means}
 use Rattle.tree_range.specs.Between.{items_between}

@@ -6,7 +6,7 @@ use Rattle.std.proofs.lemmas.List.Elements.{filter-append}
 use Rattle.blk_base.specs.declared.key.Key.{Key}
 use Rattle.blk_base.specs.Keys.{key_below}
 use Rattle.blk_base.specs.Leaf.{Item}
-use Rattle.block_table.specs.TreeIn.{ItemsRise, first_key}
+use Rattle.blk_base.specs.Trees.{ItemsRise, first_key}
 use Rattle.tree_range.specs.Between.{data_under, has_key, items_between}
 use Rattle.tree_range.proofs.Under.{under_here}
 use Rattle.tree_frame.specs.Frame.{without_item}

@@ -4,7 +4,8 @@ use Rattle.blk_base.specs.declared.key.Key.{Key}
 use Rattle.blk_base.specs.Leaf.{Item}
 use Rattle.block_table.specs.declared.tree.Tree.{Tree}
 use Rattle.block_table.specs.Table.{Table, free_blocks}
-use Rattle.block_table.specs.TreeIn.{IsSealedTree, first_key}
+use Rattle.blk_base.specs.Trees.{first_key}
+use Rattle.block_table.specs.TreeIn.{IsSealedTree}
 use Rattle.tree_range.specs.Between.{items_between}
 use Rattle.tree_range.specs.Shape.{IsTree, tree_items, tree_reach}
 use Rattle.tree_frame.specs.Frame.{AreCurrent, IsEdit, TakesAtMost, tree_leaves, without_item}

@@ -1,6 +1,7 @@
 ghost use Rattle.std.specs.Prelude.{◌≡◌, ◌≤◌, ◌+◌, ◌*◌, ℕ, List, length};
 ghost use Rattle.block_table.specs.Table.{free_blocks};
-ghost use Rattle.block_table.specs.TreeIn.{IsSealedTree, first_key};
+ghost use Rattle.blk_base.specs.Trees.{first_key};
+ghost use Rattle.block_table.specs.TreeIn.{IsSealedTree};
 ghost use Rattle.tree_range.specs.Between.{items_between};
 ghost use Rattle.tree_range.specs.Shape.{IsTree, tree_items, tree_reach};
 ghost use Rattle.tree_frame.specs.Frame.{AreCurrent, IsEdit, TakesAtMost, tree_leaves};

@@ -13,13 +13,6 @@ use std::process::Abort;
 use std::test::Fail;
 use tree_range::{get, is_tree, range};
 
-/// A tree of one leaf of 50 items.
-const LEAF: Tree = Tree {
-    root: Addr(18 * 4096),
-    level: 0,
-    owner: 5,
-};
-
 /// A tree of 4 such leaves.
 const TREE: Tree = Tree {
     root: Addr(17 * 4096),
@@ -142,21 +135,6 @@ fn has(table: &BlockTable, tree: &Tree, number: u64) -> bool
     requires { IsTree table.now tree.now }
 {
     get(table, tree, &key_of(number)).is_some()
-}
-
-#[test]
-fn a_range_goes_from_a_leaf(rt: HostRuntime) -> Result<(), Fail> {
-    let mut table = BlockTable::new(rt.alloc(), 256)?;
-    table.reserve(rt.alloc(), 256)?;
-    build(&rt, &mut table);
-    let mut tree = LEAF;
-    assert!(rt; is_tree(&table, &tree) && none_let_go(&table));
-    take_out(&rt, &mut table, &mut tree, 20, 20);
-    assert_eq!(rt; ends(&table, &tree), (49, Some(0), Some(49)));
-    take_out(&rt, &mut table, &mut tree, 40, 1000);
-    assert_eq!(rt; ends(&table, &tree), (39, Some(0), Some(39)));
-    assert!(rt; has(&table, &tree, 19) && !has(&table, &tree, 20) && has(&table, &tree, 21));
-    Ok(())
 }
 
 #[test]

@@ -5,10 +5,11 @@ use Rattle.std.proofs.lemmas.List.Elements.{All-contains, All-contains_itself, A
 use Rattle.block_table.specs.declared.state.SlotState.TheVariants.{Free}
 use Rattle.block_table.specs.Slot.{BlockSlot}
 use Rattle.block_table.specs.Table.{Table}
-use Rattle.block_table.specs.TreeIn.{IsTaken, NoneTwice, block_at}
+use Rattle.blk_base.specs.Trees.{NoneTwice}
+use Rattle.block_table.specs.TreeIn.{IsTaken, block_at}
 use Rattle.tree_range.specs.Shape.{AreAlike}
 use Rattle.tree_frame.specs.Frame.{IsEdit}
-use Rattle.tree_frame.proofs.Members.{once_append, once_apart, once_left, once_right}
+use Rattle.blk_base.proofs.Members.{once_append, once_apart, once_left, once_right}
 use Rattle.tree_frame.proofs.EditLaws.{same_unless_free}
 
 -- these blocks aren't Free, and the edited tree hasn't them

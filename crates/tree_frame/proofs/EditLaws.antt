@@ -7,7 +7,7 @@ use Rattle.block_table.specs.Slot.{BlockSlot}
 use Rattle.block_table.specs.Table.{Table}
 use Rattle.block_table.specs.TreeIn.{block_at}
 use Rattle.tree_frame.specs.Frame.{AreFree, IsEdit, IsLeft}
-use Rattle.tree_frame.proofs.Members.{is_in}
+use Rattle.blk_base.proofs.Members.{is_in}
 
 -- it is Dirty or it isn't
 pub is_dirty : (state : SlotState) → (state ≡ Dirty) ⊎ (state ≢ Dirty)

@@ -1,4 +1,3 @@
-pub mod Members
 pub mod EditLaws
 pub mod Among
 pub mod StepLaws
@@ -6,3 +5,4 @@ pub mod Reading
 pub mod OtherTrees
 pub mod Counting
 pub mod Places
+pub mod Sealed

@@ -10,7 +10,7 @@ use Rattle.block_table.specs.Table.{Table}
 use Rattle.block_table.specs.TreeIn.{IsTaken, block_at}
 use Rattle.tree_range.specs.Shape.{IsTree, tree_items, tree_reach}
 use Rattle.tree_frame.specs.Frame.{AreCurrent, AreReadable, IsEdit}
-use Rattle.tree_frame.proofs.Members.{is_in}
+use Rattle.blk_base.proofs.Members.{is_in}
 use Rattle.tree_frame.proofs.EditLaws.{same_unless_free}
 use Rattle.tree_frame.proofs.Reading.{IsReadable, IsReadTree, reach_taken, read_tree}
 

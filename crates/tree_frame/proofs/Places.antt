@@ -5,9 +5,10 @@ use Rattle.std.proofs.lemmas.Bool.{cases_eq, cases_order, eq-eqb, ne_eqb, le-ltb
 use Rattle.std.proofs.lemmas.List.Elements.{All-head, All-tail, All-weaker}
 use Rattle.block_table.specs.declared.tree.Tree.{Tree}
 use Rattle.block_table.specs.Table.{Table}
-use Rattle.block_table.specs.TreeIn.{IsTaken, NoneTwice}
+use Rattle.blk_base.specs.Trees.{NoneTwice}
+use Rattle.block_table.specs.TreeIn.{IsTaken}
 use Rattle.tree_range.specs.Shape.{IsSubtree, IsTree, node_pointers, reach_below, tree_reach}
-use Rattle.tree_frame.proofs.Members.{in_head, in_tail}
+use Rattle.blk_base.proofs.Members.{in_head, in_tail}
 use Rattle.tree_frame.proofs.Reading.{reach_taken}
 use Rattle.tree_frame.proofs.Counting.{blocks_are_leaves_and_nodes, many_leaves_by_pointers}
 

@@ -6,7 +6,8 @@ use Rattle.std.proofs.lemmas.List.Elements.{All-append, All-nil, All-cons, All-h
 use Rattle.blk_base.specs.Leaf.{Item, Pointer, leaf_body_of, node_body_of}
 use Rattle.block_table.specs.declared.tree.Tree.{Tree}
 use Rattle.block_table.specs.Table.{Table}
-use Rattle.block_table.specs.TreeIn.{IsTaken, ItemsRise, NoneTwice, block_at, first_key, least_items, least_pointers}
+use Rattle.blk_base.specs.Trees.{ItemsRise, NoneTwice, first_key, least_items, least_pointers}
+use Rattle.block_table.specs.TreeIn.{IsTaken, block_at}
 use Rattle.tree_range.specs.Shape.{IsSubtree, IsTree, listed, items_below, reach_below, leaf_items, node_pointers, tree_items, tree_reach}
 use Rattle.tree_range.proofs.Law.{Child}
 use Rattle.tree_range.proofs.Rise.{All-left, All-right}

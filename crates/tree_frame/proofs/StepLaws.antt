@@ -10,7 +10,7 @@ use Rattle.block_table.proofs.Kept.{found, taken_state}
 use Rattle.tree_blocks.specs.Steps.{HasNewBytes, IsCopied, IsSameBut, IsTakenAt}
 use Rattle.tree_blocks.proofs.Put.{put_slot, put_others}
 use Rattle.tree_frame.specs.Frame.{IsEdit, IsLeft}
-use Rattle.tree_frame.proofs.Members.{in_cons, in_head, in_nothing, in_one}
+use Rattle.blk_base.proofs.Members.{in_cons, in_head, in_nothing, in_one}
 use Rattle.tree_frame.proofs.EditLaws.{is_dirty}
 
 -- a block that was Free and is Dirty

@@ -3,7 +3,8 @@
 ghost use Rattle.std.specs.Prelude.{◌≢◌, ◌⊎◌, ◌↔◌, ℕ, List, ◌∷◌, ◌++◌, All, Contains};
 ghost use Rattle.block_table.specs.declared.state.SlotState.TheVariants.{Free};
 ghost use Rattle.block_table.specs.Table.{Table};
-ghost use Rattle.block_table.specs.TreeIn.{IsTaken, NoneTwice, block_at};
+ghost use Rattle.blk_base.specs.Trees.{NoneTwice};
+ghost use Rattle.block_table.specs.TreeIn.{IsTaken, block_at};
 ghost use Rattle.tree_range.specs.Shape.{AreAlike};
 ghost use Rattle.tree_frame.specs.Frame.{AreCurrent, IsEdit};
 

@@ -1,5 +1,5 @@
 -- Lists cut at a place.
-use Rattle.std.proofs.Common.{◌≡◌, ◌<◌, ℕ, zero, suc, List, [], ◌∷◌, ◌++◌, length, map, take, drop, slice_get, refl, ap, sym, Some, arith}
+use Rattle.std.proofs.Common.{◌∙◌, ◌≡◌, ◌<◌, ℕ, zero, suc, List, [], ◌∷◌, ◌++◌, length, map, take, drop, slice_get, refl, ap, sym, Some, arith}
 use Rattle.std.specs.Prelude.{All}
 use Rattle.std.proofs.lemmas.List.Elements.{All-nil, All-cons, All-head, All-tail}
 
@@ -57,3 +57,14 @@ drop_cut (y ∷ ys) x rights = drop_cut ys x rights
 pub length_at : {A : Type 0} (lefts : List A) (x : A) (rights : List A) → length lefts < length (lefts ++ x ∷ rights)
 length_at [] x rights = omega arith
 length_at (y ∷ ys) x rights = omega (arith, length_at ys x rights)
+
+-- a list is cut in one way at a place
+pub cut_same : {A : Type 0} (xs : List A) (x : A) (ys zs : List A) (z : A) (ws : List A) → xs ++ x ∷ ys ≡ zs ++ z ∷ ws → length xs ≡ length zs → (xs ≡ zs) × (x ≡ z) × (ys ≡ ws)
+cut_same {A = A} [] x ys [] z ws h long = (refl, cc, cc)
+cut_same {A = A} [] x ys (z' ∷ zs) z ws h long = absurd (omega arith)
+cut_same {A = A} (x' ∷ xs) x ys [] z ws h long = absurd (omega arith)
+cut_same {A = A} (x' ∷ xs) x ys (z' ∷ zs) z ws h long =
+    let first : x' ≡ z' = cc in
+    let rest : xs ++ x ∷ ys ≡ zs ++ z ∷ ws = cc in
+    let others = cut_same xs x ys zs z ws rest (omega arith) in
+    (ap (λ (l : List A). x' ∷ l) others.0 ∙ ap (λ (y : A). y ∷ zs) first, others.1, others.2)

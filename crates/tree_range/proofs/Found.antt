@@ -8,7 +8,7 @@ use Rattle.std.proofs.lemmas.Option.{slice_get-map, slice_get_within}
 use Rattle.blk_base.specs.declared.key.Key.{Key}
 use Rattle.blk_base.specs.Keys.{KeyBelow, key_below}
 use Rattle.blk_base.specs.Leaf.{Item}
-use Rattle.block_table.specs.TreeIn.{ItemsRise}
+use Rattle.blk_base.specs.Trees.{ItemsRise}
 use Rattle.leaf_view.specs.Search.{IsPlace, contents_of, keys_of}
 use Rattle.tree_range.specs.Between.{has_key, data_under, AreBelow, AreAbove}
 use Rattle.tree_range.specs.Path.{IsStart}

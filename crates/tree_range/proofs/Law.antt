@@ -6,7 +6,8 @@ use Rattle.std.proofs.lemmas.List.Elements.{All-nil, All-cons, All-head, All-tai
 use Rattle.blk_base.specs.Leaf.{Item, Pointer, leaf_body_of, node_body_of}
 use Rattle.block_table.specs.declared.tree.Tree.{Tree}
 use Rattle.block_table.specs.Table.{Table}
-use Rattle.block_table.specs.TreeIn.{AreChildren, IsSubtreeIn, IsTreeIn, ItemsRise, NoneTwice, block_at, first_key, least_items, least_pointers}
+use Rattle.blk_base.specs.Trees.{AreChildren, ItemsRise, NoneTwice, first_key, least_items, least_pointers}
+use Rattle.block_table.specs.TreeIn.{IsSubtreeIn, IsTreeIn, block_at}
 use Rattle.leaf_view.proofs.LeafLaws.{leaf_body_means, leaf_body_from}
 use Rattle.leaf_view.proofs.NodeLaws.{node_body_means, node_body_from}
 use Rattle.tree_range.specs.Shape.{IsSubtree, IsTree, items_below, reach_below, leaf_items, node_pointers, tree_items, tree_reach}

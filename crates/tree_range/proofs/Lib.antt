@@ -6,7 +6,7 @@ pub mod Local
 pub mod Ways
 pub mod Cuts
 pub mod Children
-mod Found
+pub mod Found
 mod Spots
 mod Looked
 mod Walked

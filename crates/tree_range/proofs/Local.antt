@@ -9,7 +9,8 @@ use Rattle.block_table.specs.declared.state.SlotState.TheVariants.{Free, Dirty, 
 use Rattle.block_table.specs.declared.tree.Tree.{Tree}
 use Rattle.block_table.specs.Slot.{BlockSlot, is_free}
 use Rattle.block_table.specs.Table.{Table}
-use Rattle.block_table.specs.TreeIn.{IsTaken, ItemsRise, NoneTwice, block_at, first_key, least_items, least_pointers}
+use Rattle.blk_base.specs.Trees.{ItemsRise, NoneTwice, first_key, least_items, least_pointers}
+use Rattle.block_table.specs.TreeIn.{IsTaken, block_at}
 use Rattle.block_table.proofs.Kept.{found}
 use Rattle.std.specs.Prelude.{slice_index_or}
 use Rattle.tree_range.specs.Shape.{IsSubtree, IsTree, AreAlike, listed, items_below, reach_below, leaf_items, node_pointers, tree_items, tree_reach}

@@ -6,7 +6,8 @@ use Rattle.blk_base.specs.declared.key.Key.{Key}
 use Rattle.blk_base.specs.Leaf.{Item, leaf_body_of}
 use Rattle.block_table.specs.declared.tree.Tree.{Tree}
 use Rattle.block_table.specs.Table.{Table}
-use Rattle.block_table.specs.TreeIn.{ItemsRise, block_at}
+use Rattle.blk_base.specs.Trees.{ItemsRise}
+use Rattle.block_table.specs.TreeIn.{block_at}
 use Rattle.leaf_view.proofs.LeafLaws.{leaf_body_means}
 use Rattle.leaf_view.specs.Search.{IsPlace, contents_of, keys_of}
 use Rattle.tree_range.specs.Shape.{IsTree, leaf_items, tree_items}

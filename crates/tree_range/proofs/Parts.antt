@@ -9,7 +9,8 @@ use Rattle.blk_base.specs.declared.fault.BlockFault.{BlockFault}
 use Rattle.blk_base.specs.Keys.{KeyBelow}
 use Rattle.blk_base.specs.Leaf.{Item, Pointer, item_of, leaf_body_of, node_body_of}
 use Rattle.block_table.specs.Table.{Table}
-use Rattle.block_table.specs.TreeIn.{IsTaken, ItemsRise, block_at, first_key, least_items}
+use Rattle.blk_base.specs.Trees.{ItemsRise, first_key, least_items}
+use Rattle.block_table.specs.TreeIn.{IsTaken, block_at}
 use Rattle.leaf_view.specs.KeyOrder.{KeyBelow_trans}
 use Rattle.leaf_view.specs.Search.{children_of, keys_of, pointer_keys}
 use Rattle.leaf_view.proofs.LeafLaws.{leaf_body_means}

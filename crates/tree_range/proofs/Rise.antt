@@ -5,7 +5,7 @@ use Rattle.std.proofs.lemmas.List.Elements.{All-nil, All-cons, All-head, All-tai
 use Rattle.blk_base.specs.declared.key.Key.{Key}
 use Rattle.blk_base.specs.Keys.{KeyBelow}
 use Rattle.blk_base.specs.Leaf.{Item}
-use Rattle.block_table.specs.TreeIn.{ItemsRise, first_key}
+use Rattle.blk_base.specs.Trees.{ItemsRise, first_key}
 use Rattle.leaf_view.specs.KeyOrder.{KeyBelow_trans}
 use Rattle.tree_range.specs.Between.{AreBelow, AreAbove}
 

@@ -11,7 +11,7 @@ use Rattle.blk_base.specs.Keys.{KeyBelow, key_below}
 use Rattle.blk_base.specs.Leaf.{Item}
 use Rattle.block_table.specs.declared.tree.Tree.{Tree}
 use Rattle.block_table.specs.Table.{Table}
-use Rattle.block_table.specs.TreeIn.{ItemsRise, first_key}
+use Rattle.blk_base.specs.Trees.{ItemsRise, first_key}
 use Rattle.leaf_view.specs.KeyOrder.{KeyBelow_irrefl}
 use Rattle.tree_range.specs.Shape.{IsTree, leaf_items, tree_items}
 use Rattle.tree_range.specs.Between.{AreBelow, AreAbove, items_from, items_from_some, items_up_to}

@@ -9,7 +9,8 @@ use Rattle.std.proofs.lemmas.List.Elements.{All-append, All-cons, All-head, All-
 use Rattle.std.proofs.lemmas.Option.{get_or_from_slice_get, slice_get-get_or, slice_get_within}
 use Rattle.blk_base.specs.Leaf.{Pointer, node_body_of}
 use Rattle.block_table.specs.Table.{Table}
-use Rattle.block_table.specs.TreeIn.{IsTaken, NoneTwice, block_at}
+use Rattle.blk_base.specs.Trees.{NoneTwice}
+use Rattle.block_table.specs.TreeIn.{IsTaken, block_at}
 use Rattle.leaf_view.specs.Search.{children_of}
 use Rattle.tree_range.specs.Shape.{IsSubtree, node_pointers, reach_below}
 use Rattle.tree_range.specs.Part.{times_in}

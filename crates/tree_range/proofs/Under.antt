@@ -10,7 +10,7 @@ use Rattle.std.proofs.lemmas.List.Elements.{All-cons, All-head, All-tail, All-we
 use Rattle.blk_base.specs.declared.key.Key.{Key}
 use Rattle.blk_base.specs.Keys.{KeyBelow, key_below, key_cmp}
 use Rattle.blk_base.specs.Leaf.{Item}
-use Rattle.block_table.specs.TreeIn.{ItemsRise, first_key}
+use Rattle.blk_base.specs.Trees.{ItemsRise, first_key}
 use Rattle.leaf_view.specs.KeyOrder.{KeyBelow_trans, KeyBelow_irrefl, same_key}
 use Rattle.leaf_view.proofs.Rising.{key_below_means, key_below_from}
 use Rattle.tree_range.specs.Between.{has_key, data_under, items_from, items_up_to, items_from_some, AreBelow, AreAbove}

@@ -10,7 +10,8 @@ use Rattle.blk_base.specs.Keys.{KeyBelow}
 use Rattle.blk_base.specs.Leaf.{Item, Pointer, node_body_of}
 use Rattle.block_table.specs.declared.tree.Tree.{Tree}
 use Rattle.block_table.specs.Table.{Table}
-use Rattle.block_table.specs.TreeIn.{ItemsRise, block_at, first_key}
+use Rattle.blk_base.specs.Trees.{ItemsRise, first_key}
+use Rattle.block_table.specs.TreeIn.{block_at}
 use Rattle.leaf_view.specs.KeyOrder.{KeyBelow_trans}
 use Rattle.tree_range.specs.Shape.{IsTree, items_below, reach_below, node_pointers, tree_items, tree_reach}
 use Rattle.tree_range.specs.Between.{AreBelow, AreAbove}

@@ -3,7 +3,7 @@ use Rattle.std.specs.Prelude.{◌≡◌, ◌≤◌, ◌+◌, ◌==◌, ℕ, suc,
 use Rattle.blk_base.specs.declared.key.Key.{Key}
 use Rattle.blk_base.specs.Leaf.{Item, Pointer, leaf_body_of, node_body_of}
 use Rattle.block_table.specs.Table.{Table}
-use Rattle.block_table.specs.TreeIn.{ItemsRise, first_key, least_items, least_pointers}
+use Rattle.blk_base.specs.Trees.{ItemsRise, first_key, least_items, least_pointers}
 use Rattle.tree_range.specs.Shape.{IsSubtree, items_below, listed}
 use Rattle.tree_range.specs.Between.{AreBelow}
 use Rattle.tree_range.specs.Path.{key_behind}

@@ -5,7 +5,7 @@ use Rattle.blk_base.specs.Keys.{KeyBelow, key_below}
 use Rattle.blk_base.specs.Leaf.{Item, Pointer}
 use Rattle.block_table.specs.declared.tree.Tree.{Tree}
 use Rattle.block_table.specs.Table.{Table}
-use Rattle.block_table.specs.TreeIn.{first_key}
+use Rattle.blk_base.specs.Trees.{first_key}
 use Rattle.tree_range.specs.Shape.{IsSubtree, items_below, leaf_items, reach_below, tree_items, tree_reach}
 use Rattle.tree_range.specs.Between.{AreBelow, AreAbove}
 

@@ -5,7 +5,8 @@ use Rattle.blk_base.specs.declared.fault.BlockFault.{BlockFault}
 use Rattle.blk_base.specs.Leaf.{Item, Pointer, leaf_body_of, node_body_of}
 use Rattle.block_table.specs.declared.tree.Tree.{Tree}
 use Rattle.block_table.specs.Table.{Table}
-use Rattle.block_table.specs.TreeIn.{IsTaken, ItemsRise, NoneTwice, block_at, first_key, least_items, least_pointers}
+use Rattle.blk_base.specs.Trees.{ItemsRise, NoneTwice, first_key, least_items, least_pointers}
+use Rattle.block_table.specs.TreeIn.{IsTaken, block_at}
 
 -- the list of a body, and none where it has a fault
 abbrev pub listed : {A : Type 0} → Result (List A) BlockFault → List A

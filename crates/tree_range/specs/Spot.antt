@@ -3,7 +3,7 @@ use Rattle.std.specs.Prelude.{◌≡◌, ◌≤◌, ◌<◌, Bool, List, ◌++�
 use Rattle.blk_base.specs.Leaf.{Item}
 use Rattle.block_table.specs.declared.tree.Tree.{Tree}
 use Rattle.block_table.specs.Table.{Table}
-use Rattle.block_table.specs.TreeIn.{first_key}
+use Rattle.blk_base.specs.Trees.{first_key}
 use Rattle.tree_range.specs.Shape.{IsSubtree, leaf_items, tree_items}
 use Rattle.tree_range.specs.Between.{items_from_some}
 use Rattle.tree_range.specs.Path.{key_here}

@@ -1,11 +1,14 @@
 ghost use Rattle.std.specs.Prelude.{◌≡◌, ◌↔◌, ◌≤◌, Bool, Some, None, IsOk, IsTrue, min, ◌∷◌, [], true};
 ghost use Rattle.blk_base.specs.declared.key.Key.{Key};
 ghost use Rattle.blk_base.specs.Keys.{KeyBelow};
-ghost use Rattle.block_table.specs.TreeIn.{IsTaken, NoneTwice};
+ghost use Rattle.blk_base.specs.Trees.{NoneTwice};
+ghost use Rattle.block_table.specs.TreeIn.{IsTaken};
 ghost use Rattle.tree_range.specs.Shape.{IsSubtree, IsTree, reach_below, tree_reach};
 ghost use Rattle.tree_range.specs.Part.{IsFirst, IsLeafPart, IsNodePart, IsPart, times_in};
 
 use crate::descent::key_after;
+use blk_base::format::MAX_LEVEL;
+use blk_base::limits::{LEAST_POINTERS, LEAST_ROOT_POINTERS};
 use blk_base::{Addr, Block, Key};
 use block_table::{BlockTable, SlotState, Tree};
 use leaf_view::{LeafView, NodeView, is_leaf_body, is_node_body};
@@ -16,7 +19,7 @@ use leaf_view::{LeafView, NodeView, is_leaf_body, is_node_body};
 pub fn is_tree(table: &BlockTable, tree: &Tree) -> bool
     ensures { IsTrue result ↔ IsTree table.now tree.now }
 {
-    tree.level <= 7
+    tree.level <= MAX_LEVEL
         && is_part(table, tree.level, tree.root, None, None)
         && is_reached_once(table, tree)
 }
@@ -72,7 +75,11 @@ fn is_node_part(block: &Block, first: Option<Key>) -> bool
         return false;
     }
     let node = NodeView::of_body(block);
-    let least = if first.is_none() { 2 } else { 30 };
+    let least = if first.is_none() {
+        LEAST_ROOT_POINTERS
+    } else {
+        LEAST_POINTERS
+    };
     node.len() >= least && is_first(first, &node.key(0))
 }
 

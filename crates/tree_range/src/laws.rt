@@ -5,7 +5,8 @@ ghost use Rattle.blk_base.specs.declared.key.Key.{Key};
 ghost use Rattle.blk_base.specs.Leaf.{Item};
 ghost use Rattle.block_table.specs.declared.tree.Tree.{Tree};
 ghost use Rattle.block_table.specs.Table.{Table};
-ghost use Rattle.block_table.specs.TreeIn.{IsTreeIn, ItemsRise};
+ghost use Rattle.blk_base.specs.Trees.{ItemsRise};
+ghost use Rattle.block_table.specs.TreeIn.{IsTreeIn};
 ghost use Rattle.tree_range.specs.Shape.{AreAlike, IsSubtree, IsTree, items_below, reach_below, tree_items, tree_reach};
 ghost use Rattle.tree_range.specs.Between.{data_under};
 

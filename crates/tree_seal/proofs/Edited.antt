@@ -9,14 +9,15 @@ use Rattle.block_table.specs.declared.state.SlotState.TheVariants.{Dirty}
 use Rattle.block_table.specs.declared.tree.Tree.{Tree}
 use Rattle.block_table.specs.Slot.{BlockSlot}
 use Rattle.block_table.specs.Table.{Table}
-use Rattle.block_table.specs.TreeIn.{IsSealedBlock, IsSealedSubtree, IsSealedTree, block_at, child_want}
+use Rattle.blk_base.specs.Trees.{child_want}
+use Rattle.block_table.specs.TreeIn.{IsSealedBlock, IsSealedSubtree, IsSealedTree, block_at}
 use Rattle.leaf_view.proofs.NodeLaws.{node_body_means}
 use Rattle.tree_range.specs.Shape.{IsSubtree, IsTree, node_pointers, reach_below, tree_reach}
 use Rattle.tree_range.proofs.Bodies.{node_body_is}
 use Rattle.tree_range.proofs.Law.{Child}
 use Rattle.tree_range.proofs.Local.{node_pointers_alike}
 use Rattle.tree_frame.specs.Frame.{IsEdit}
-use Rattle.tree_frame.proofs.Members.{in_cons, in_head, in_nothing, in_one, in_tail, is_in}
+use Rattle.blk_base.proofs.Members.{in_cons, in_head, in_nothing, in_one, in_tail, is_in}
 use Rattle.tree_seal.specs.Above.{DirtyIsAbove, IsDirtyAbove}
 use Rattle.tree_seal.specs.OnImage.{AreClean, root_want}
 use Rattle.tree_seal.proofs.Above.{Under, clean_below}

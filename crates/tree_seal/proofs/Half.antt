@@ -9,13 +9,13 @@ use Rattle.blk_base.specs.Leaf.{Pointer}
 use Rattle.node_edit.specs.Pointers.{with_child}
 use Rattle.block_table.specs.declared.state.SlotState.{SlotState}
 use Rattle.block_table.specs.declared.state.SlotState.TheVariants.{Free, Dirty, Sealed, Live, LetGo}
-use Rattle.block_table.specs.Blocks.{AtBlock}
 use Rattle.block_table.specs.Slot.{BlockSlot}
 use Rattle.block_table.specs.Table.{Table}
-use Rattle.block_table.specs.TreeIn.{IsSealedSubtree, NoneTwice, block_at, child_want}
+use Rattle.blk_base.specs.Trees.{AtBlock, NoneTwice, child_want}
+use Rattle.block_table.specs.TreeIn.{IsSealedSubtree, block_at}
 use Rattle.tree_range.specs.Shape.{AreAlike, node_pointers, reach_below}
 use Rattle.tree_range.proofs.Local.{IsAlikeBelow, alike_below, node_pointers_alike}
-use Rattle.tree_frame.proofs.Members.{in_nothing, in_one, once_apart, once_left, once_right}
+use Rattle.blk_base.proofs.Members.{in_nothing, in_one, once_apart, once_left, once_right}
 use Rattle.tree_blocks.specs.Lists.{IsNodeBlock, node_list}
 use Rattle.tree_blocks.specs.Steps.{HasNewBytes, IsDirtyNode, IsSameBut, node_at}
 use Rattle.tree_seal.specs.Above.{DirtyIsAbove}
@@ -24,7 +24,7 @@ use Rattle.tree_seal.specs.Sealing.{AreHanded, IsSealedBelow, IsSealedSlot, IsSe
 use Rattle.tree_seal.proofs.Above.{clean_below}
 use Rattle.tree_seal.proofs.Cuts.{IsCut, cut_at, map_append, joined_more, joined_whole}
 use Rattle.tree_seal.proofs.Handed.{handed_later, handed_more, handed_none, handed_nothing}
-use Rattle.tree_seal.proofs.Local.{sealed_alike}
+use Rattle.tree_frame.proofs.Sealed.{sealed_alike}
 
 abbrev pub is_dirty : SlotState → Bool
 is_dirty Free = false

@@ -4,11 +4,11 @@ use Rattle.std.specs.Prelude.{Contains}
 use Rattle.std.proofs.lemmas.List.{append-nil}
 use Rattle.std.proofs.lemmas.List.Elements.{All-contains_itself, All-weaker, Contains-append_cases, Contains-append_left, Contains-append_right}
 use Rattle.block_table.specs.declared.state.SlotState.TheVariants.{Dirty}
-use Rattle.block_table.specs.Blocks.{AtBlock}
+use Rattle.blk_base.specs.Trees.{AtBlock}
 use Rattle.block_table.specs.Slot.{BlockSlot}
 use Rattle.block_table.specs.Table.{Table}
 use Rattle.block_table.specs.TreeIn.{block_at}
-use Rattle.tree_frame.proofs.Members.{in_head, in_nothing, in_one, in_cons, in_tail, once_append}
+use Rattle.blk_base.proofs.Members.{in_head, in_nothing, in_one, in_cons, in_tail, once_append}
 use Rattle.tree_seal.specs.Sealing.{AreHanded, as_handed}
 use Rattle.tree_seal.proofs.Cuts.{map_append, map_same}
 

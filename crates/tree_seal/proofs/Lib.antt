@@ -1,6 +1,5 @@
 pub mod OnImage
 pub mod Above
-pub mod Local
 pub mod Bodies
 pub mod Single
 pub mod Cuts

@@ -10,7 +10,8 @@ use Rattle.blk_base.specs.Leaf.{Item, Pointer, IsLeaf, IsNode, IsNodeBody}
 use Rattle.block_table.specs.declared.state.SlotState.TheVariants.{Dirty}
 use Rattle.block_table.specs.declared.tree.Tree.{Tree}
 use Rattle.block_table.specs.Table.{Table}
-use Rattle.block_table.specs.TreeIn.{ItemsRise, NoneTwice, IsSealedSubtree, IsSealedTree, block_at, child_want, first_key}
+use Rattle.blk_base.specs.Trees.{ItemsRise, NoneTwice, child_want, first_key}
+use Rattle.block_table.specs.TreeIn.{IsSealedSubtree, IsSealedTree, block_at}
 use Rattle.leaf_view.proofs.LeafLaws.{leaf_body_means}
 use Rattle.leaf_view.proofs.NodeLaws.{node_body_means}
 use Rattle.tree_range.specs.Shape.{IsSubtree, IsTree, items_below, reach_below, leaf_items, node_pointers, tree_items, tree_reach}

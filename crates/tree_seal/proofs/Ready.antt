@@ -12,7 +12,7 @@ use Rattle.tree_seal.specs.Above.{DirtyIsAbove, IsDirtyAbove}
 use Rattle.tree_seal.specs.OnImage.{root_want}
 use Rattle.tree_seal.proofs.Cuts.{cut_at}
 use Rattle.tree_seal.proofs.Half.{each_more, node_at_shown}
-use Rattle.tree_seal.proofs.Local.{pointers_shown}
+use Rattle.tree_frame.proofs.Sealed.{pointers_shown}
 use Rattle.tree_seal.proofs.Walk.{first_same}
 
 abbrev pub PointsToDirty : Table → Pointer → Type 0

@@ -5,10 +5,10 @@ use Rattle.std.proofs.lemmas.List.Elements.{All-contains, All-contains_itself, A
 use Rattle.block_table.specs.declared.state.SlotState.{SlotState}
 use Rattle.block_table.specs.declared.state.SlotState.TheVariants.{Free, Dirty, Sealed, Live, LetGo}
 use Rattle.block_table.specs.declared.tree.Tree.{Tree}
-use Rattle.block_table.specs.Blocks.{AtBlock}
 use Rattle.block_table.specs.Slot.{BlockSlot}
 use Rattle.block_table.specs.Table.{Table, state_at}
-use Rattle.block_table.specs.TreeIn.{IsSealedTree, ItemsRise, NoneTwice, block_at}
+use Rattle.blk_base.specs.Trees.{AtBlock, ItemsRise, NoneTwice}
+use Rattle.block_table.specs.TreeIn.{IsSealedTree, block_at}
 use Rattle.tree_range.specs.Shape.{IsTree, tree_reach}
 use Rattle.tree_seal.specs.Above.{IsDirtyAbove}
 use Rattle.tree_seal.specs.OnImage.{AreClean, root_want}

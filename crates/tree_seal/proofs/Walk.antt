@@ -10,15 +10,15 @@ use Rattle.blk_base.specs.Leaf.{Pointer, IsNodeBody}
 use Rattle.leaf_view.specs.Search.{children_of}
 use Rattle.leaf_view.proofs.NodeLaws.{node_body_means}
 use Rattle.block_table.specs.declared.state.SlotState.TheVariants.{Dirty}
-use Rattle.block_table.specs.Blocks.{AtBlock}
 use Rattle.block_table.specs.Slot.{BlockSlot}
 use Rattle.block_table.specs.Table.{Table, state_at}
-use Rattle.block_table.specs.TreeIn.{IsSealedSubtree, NoneTwice, block_at, child_want}
+use Rattle.blk_base.specs.Trees.{AtBlock, NoneTwice, child_want}
+use Rattle.block_table.specs.TreeIn.{IsSealedSubtree, block_at}
 use Rattle.tree_range.specs.Shape.{AreAlike, IsSubtree, node_pointers, reach_below}
 use Rattle.tree_range.proofs.Bodies.{node_body_is}
 use Rattle.tree_range.proofs.Law.{Child}
 use Rattle.tree_range.proofs.Local.{alike_below}
-use Rattle.tree_frame.proofs.Members.{in_head}
+use Rattle.blk_base.proofs.Members.{in_head}
 use Rattle.tree_blocks.specs.Lists.{IsNodeBlock}
 use Rattle.tree_blocks.specs.Steps.{IsDirtyNode, IsNodeAt, node_at}
 use Rattle.tree_blocks.proofs.Listing.{node_from_ok}
@@ -27,7 +27,7 @@ use Rattle.tree_seal.specs.Sealing.{AreHanded, IsSealable, IsSealedBelow, IsSeal
 use Rattle.tree_seal.proofs.Above.{Under, above_alike}
 use Rattle.tree_seal.proofs.Cuts.{all_at, take_and_drop, take_whole}
 use Rattle.tree_seal.proofs.Half.{IsHalfSealed, IsNext, IsSet, alike_by, done_below, half_clean, half_dirty, next_child, next_same, node_at_shown, resealed}
-use Rattle.tree_seal.proofs.Local.{sealed_alike}
+use Rattle.tree_frame.proofs.Sealed.{sealed_alike}
 use Rattle.tree_seal.proofs.Whole.{IsLast, IsSealedWhole, leaf_whole, node_whole}
 
 -- ---- levels

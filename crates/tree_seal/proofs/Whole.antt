@@ -8,23 +8,23 @@ use Rattle.blk_base.specs.declared.key.Want.{Want}
 use Rattle.blk_base.specs.Address.{IsAllowed}
 use Rattle.blk_base.specs.Leaf.{Item, Pointer, IsLeafBody, IsNodeBody, leaf_body_of, node_body_of}
 use Rattle.block_table.specs.declared.state.SlotState.TheVariants.{Free, Sealed}
-use Rattle.block_table.specs.Blocks.{AtBlock}
 use Rattle.block_table.specs.Slot.{BlockSlot}
 use Rattle.block_table.specs.Table.{Table}
-use Rattle.block_table.specs.TreeIn.{IsSealedSubtree, IsTaken, block_at, child_want, first_key, least_items, least_pointers}
+use Rattle.blk_base.specs.Trees.{AtBlock, child_want, first_key, least_items, least_pointers}
+use Rattle.block_table.specs.TreeIn.{IsSealedSubtree, IsTaken, block_at}
 use Rattle.leaf_view.proofs.LeafLaws.{leaf_body_from, leaf_body_means}
 use Rattle.leaf_view.proofs.NodeLaws.{node_body_from, node_body_means}
 use Rattle.tree_range.specs.Shape.{AreAlike, IsSubtree, items_below, leaf_items, node_pointers, reach_below}
 use Rattle.tree_range.proofs.Bodies.{is_ok, leaf_body_is, leaf_items_are, node_pointers_are}
 use Rattle.tree_range.proofs.Law.{Child}
 use Rattle.tree_frame.proofs.Reading.{all_parts}
-use Rattle.tree_frame.proofs.Members.{in_cons, in_head, in_nothing, in_one, in_tail}
+use Rattle.blk_base.proofs.Members.{in_cons, in_head, in_nothing, in_one, in_tail}
 use Rattle.tree_blocks.specs.Steps.{IsSameBut, node_at}
 use Rattle.tree_seal.specs.Sealing.{AreHanded, IsSealable, IsSealedBelow, IsSealedOne, IsSealedSlot, IsSealing, as_handed}
 use Rattle.tree_seal.proofs.Cuts.{drop_whole, joined_map, take_whole}
 use Rattle.tree_seal.proofs.Half.{IsHalfSealed, alike_by, done_below, sealed_later, node_at_shown, resealed, resealed_at, resealed_key}
 use Rattle.tree_seal.proofs.Handed.{handed_last, handed_nothing}
-use Rattle.tree_seal.proofs.Local.{pointers_shown}
+use Rattle.tree_frame.proofs.Sealed.{pointers_shown}
 
 -- what a seal of a block and all below it makes
 pub record IsSealedWhole (level : ℕ) (old new : Table) (want : Want) (before after : List AtBlock) : Type 0 where

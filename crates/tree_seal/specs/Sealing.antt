@@ -3,10 +3,10 @@ use Rattle.std.specs.Prelude.{◌≡◌, ◌≢◌, ◌≤◌, ℕ, Bool, true, 
 use Rattle.blk_base.specs.declared.key.Want.{Want}
 use Rattle.blk_base.specs.Leaf.{Item, Pointer, HeaderFits, IsLeafBody, IsNodeBody}
 use Rattle.block_table.specs.declared.state.SlotState.TheVariants.{Dirty, Sealed}
-use Rattle.block_table.specs.Blocks.{AtBlock}
 use Rattle.block_table.specs.Slot.{BlockSlot}
 use Rattle.block_table.specs.Table.{Table}
-use Rattle.block_table.specs.TreeIn.{IsSealedSubtree, NoneTwice, block_at}
+use Rattle.blk_base.specs.Trees.{AtBlock, NoneTwice}
+use Rattle.block_table.specs.TreeIn.{IsSealedSubtree, block_at}
 use Rattle.tree_range.specs.Shape.{IsSubtree, items_below, reach_below}
 use Rattle.tree_seal.specs.Above.{DirtyIsAbove}
 

@@ -59,22 +59,6 @@ fn are_dirty(table: &BlockTable, at: Addr) -> bool
     true
 }
 
-/// Whether a tree of one leaf is Dirty.
-fn is_ready_leaf(table: &BlockTable, tree: &Tree) -> bool
-    ensures tree { IsTrue result → IsTree table.now tree.now }
-    ensures above { IsTrue result → IsDirtyAbove table.now tree.now }
-    ensures written { IsTrue result → IsSealedTree table.now tree.now FSID 0 }
-    ensures fits { IsTrue result → length (tree_reach table.now tree.now) ≤ length table.now.slots }
-{
-    if tree.level != 0 {
-        return false;
-    }
-    if !is_dirty(table, tree.root) {
-        return false;
-    }
-    is_tree(table, tree)
-}
-
 /// Whether a tree of a node and leaves is Dirty.
 fn is_ready_node(table: &BlockTable, tree: &Tree) -> bool
     ensures tree { IsTrue result → IsTree table.now tree.now }
@@ -136,25 +120,6 @@ fn want_of(at: Addr, level: u8) -> Want {
         owner: 5,
         level,
     }
-}
-
-/// A tree of one empty leaf is sealed.
-#[test]
-fn leaf_is_sealed(rt: HostRuntime) -> Result<(), Fail> {
-    let mut table = BlockTable::new(rt.alloc(), 64)?;
-    table.reserve(rt.alloc(), 1)?;
-    let root = make_leaf(&rt, &mut table);
-    let tree = Tree {
-        root,
-        level: 0,
-        owner: 5,
-    };
-    let mut out = list_of(&rt, &mut table);
-    assert!(&rt; is_ready_leaf(&table, &tree));
-    seal_tree(&mut table, &tree, &FSID, 9, &mut out);
-    assert!(&rt; out.len() == 1);
-    assert!(&rt; LeafView::open(out.get(0).1, &want_of(root, 0)).is_ok());
-    Ok(())
 }
 
 /// A node above two leaves with one item each.

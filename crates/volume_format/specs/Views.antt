@@ -1,6 +1,4 @@
 -- What the structs of this crate say, as the values of the grammar.
-use Rattle.std.specs.Prelude.{◌≡◌}
-use Rattle.std.proofs.Common.{ap}
 use Rattle.blk_base.specs.Superblock.{SuperValue}
 use Rattle.blk_base.specs.Items.{RootValue}
 use Rattle.volume_format.specs.declared.superblock.Super.{Super}
@@ -22,30 +20,3 @@ super_view s = record {
 -- what a root item says ("ROOT_ITEM")
 abbrev pub root_view : RootItem → RootValue
 root_view r = record { generation = r.generation; at = r.at.0; level = r.level }
-
--- the superblock that says this
-super_struct : SuperValue → Super
-super_struct v = record {
-  fsid = v.fsid;
-  generation = v.generation;
-  root = record { 0 = v.root };
-  root_level = v.root_level;
-  log_root = record { 0 = v.log_root };
-  log_root_level = v.log_root_level;
-  blocks = v.blocks;
-  used = v.used;
-}
-
--- superblocks that say the same are the same
-pub super_view-same : (a b : Super) → super_view a ≡ super_view b → a ≡ b
-unfolding super_struct
-super_view-same a b e = ap super_struct e
-
--- the root item that says this
-root_struct : RootValue → RootItem
-root_struct v = record { generation = v.generation; at = record { 0 = v.at }; level = v.level }
-
--- root items that say the same are the same
-pub root_view-same : (a b : RootItem) → root_view a ≡ root_view b → a ≡ b
-unfolding root_struct
-root_view-same a b e = ap root_struct e

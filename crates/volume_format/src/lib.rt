@@ -5,7 +5,6 @@
 //! written is read back, by the laws of `format_laws` that are passed on here.
 #![tactic(auto)]
 
-mod byte_field;
 mod root_item;
 mod superblock;
 #[cfg(test)]

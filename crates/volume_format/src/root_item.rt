@@ -3,11 +3,8 @@ ghost use Rattle.std.specs.Result.{result_map_both};
 ghost use Rattle.blk_base.specs.Items.{root_of, root_bytes};
 ghost use Rattle.volume_format.specs.Views.{root_view};
 
-use crate::byte_field::{put_u8, u8_at};
-use blk_base::{Addr, RootFault, put_u32, put_u64, u64_at};
-
-/// Bytes of a root item.
-const ROOT_ITEM_SIZE: usize = 439;
+use blk_base::format::{FIRST_FREE, ROOT_ITEM_SIZE};
+use blk_base::{Addr, RootFault, put_u8, put_u32, put_u64, u8_at, u64_at};
 
 /// What a root item says of a tree: its generation, and the byte address and level of its root ("ROOT_ITEM" of the
 /// on-disk format).
@@ -29,7 +26,7 @@ impl RootItem {
     {
         *into = [0; ROOT_ITEM_SIZE];
         put_u64(into, 160, self.generation);
-        put_u64(into, 168, 256);
+        put_u64(into, 168, FIRST_FREE);
         put_u64(into, 176, self.at.0);
         put_u32(into, 216, 1);
         put_u8(into, 238, self.level);

@@ -1,31 +1,17 @@
 ghost use Rattle.std.specs.Prelude.{◌≡◌, ◌/◌, ◌==◌, ◌&&◌, ◌||◌, not, nat_lt};
 ghost use Rattle.std.specs.Result.{result_map_both};
-ghost use Rattle.blk_base.specs.Address.{is_allowed};
 ghost use Rattle.std.specs.Str.{bytes_eq};
 ghost use Rattle.blk_base.specs.Bytes.{field, bytes_at};
 ghost use Rattle.blk_base.specs.Crc.{block_sum};
 ghost use Rattle.blk_base.specs.Superblock.{super_of, super_value, super_bytes, with_sum, is_profile, is_size, magic};
 ghost use Rattle.volume_format.specs.Views.{super_view};
 
-use crate::byte_field::{put_u8, u8_at};
+use blk_base::format::{BLOCK_SIZE, MAGIC, MAX_LEVEL, PROFILE_FLAGS, SUPER_AT};
+use blk_base::limits::{FEWEST_BLOCKS, MOST_BLOCKS};
 use blk_base::{
-    Addr, Block, SuperFault, crc32c, put_bytes, put_u32, put_u64, u16_at, u32_at, u64_at,
+    Addr, Block, SuperFault, crc32c, is_allowed, put_bytes, put_u8, put_u32, put_u64, u8_at,
+    u16_at, u32_at, u64_at,
 };
-
-/// The bytes at 0x40 of every Btrfs superblock.
-const MAGIC: [u8; 8] = *b"_BHRfS_M";
-
-/// The byte address of the superblock, which it says itself.
-const SUPER_AT: u64 = 65536;
-
-/// Bytes of a block.
-const BLOCK_SIZE: u64 = 4096;
-
-/// The incompatible feature that marks this profile (own).
-const PROFILE_FLAGS: u64 = 1 << 63;
-
-/// The level of the highest tree.
-const MAX_LEVEL: u8 = 7;
 
 /// What a superblock says of its volume ("Superblock" of the on-disk format).
 #[derive(Clone, Copy, Debug, PartialEq, Eq)]
@@ -65,8 +51,8 @@ impl Super {
         put_u64(into, 0x70, u64::from(self.blocks) * BLOCK_SIZE);
         put_u64(into, 0x78, u64::from(self.used) * BLOCK_SIZE);
         put_u64(into, 0x88, 1);
-        put_u32(into, 0x90, 4096);
-        put_u32(into, 0x94, 4096);
+        put_u32(into, 0x90, BLOCK_SIZE as u32);
+        put_u32(into, 0x94, BLOCK_SIZE as u32);
         put_u64(into, 0xbc, PROFILE_FLAGS);
         put_u8(into, 0xc6, self.root_level);
         put_u8(into, 0xc8, self.log_root_level);
@@ -137,8 +123,8 @@ fn is_profile(block: &Block) -> bool
     u16_at(block, 0xc4) == 0
         && u64_at(block, 0x30) == SUPER_AT
         && u64_at(block, 0x88) == 1
-        && u32_at(block, 0x90) == 4096
-        && u32_at(block, 0x94) == 4096
+        && u32_at(block, 0x90) == BLOCK_SIZE as u32
+        && u32_at(block, 0x94) == BLOCK_SIZE as u32
         && u64_at(block, 0xbc) == PROFILE_FLAGS
         && u64_at(block, 0x58) == 0
         && u32_at(block, 0xa0) == 0
@@ -149,20 +135,15 @@ fn is_size(total: u64, disk_blocks: u32) -> bool
     ensures { result ≡ is_size total disk_blocks }
 {
     let blocks = total / BLOCK_SIZE;
-    total % BLOCK_SIZE == 0 && blocks >= 4096 && blocks <= 65536 && blocks <= u64::from(disk_blocks)
-}
-
-// A tree may have a block at this byte address, in a volume of so many blocks (own).
-fn is_allowed(blocks: u32, at: Addr) -> bool
-    ensures { result ≡ is_allowed blocks at.0 }
-{
-    let block = at.0 / BLOCK_SIZE;
-    at.0 % BLOCK_SIZE == 0 && block < u64::from(blocks) && block >= 17 && block != 16384
+    total % BLOCK_SIZE == 0
+        && blocks >= u64::from(FEWEST_BLOCKS)
+        && blocks <= u64::from(MOST_BLOCKS)
+        && blocks <= u64::from(disk_blocks)
 }
 
 // A log root tree is too high, or has a level and no address ("Superblock": log_root_level).
 fn is_log_level_wrong(at: Addr, level: u8) -> bool
-    ensures { result ≡ (nat_lt 7 level || ((at.0 == 0) && not (level == 0))) }
+    ensures { result ≡ (nat_lt MAX_LEVEL level || ((at.0 == 0) && not (level == 0))) }
 {
     level > MAX_LEVEL || (at.0 == 0 && level != 0)
 }

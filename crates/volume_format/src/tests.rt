@@ -92,6 +92,14 @@ fn the_first_fault_of_a_superblock_is_told(rt: HostRuntime) {
             first.0
         );
     }
+    for (blocks, want) in [(65_536, None), (65_537, Some(Size))] {
+        let mut block = [0; 4096];
+        let mut volume = small_volume();
+        volume.blocks = blocks;
+        volume.encode(&mut block);
+        let fault = Super::decode(&block, 131_072).err();
+        assert!(rt; fault == want, "{blocks} blocks on a larger disk");
+    }
 }
 
 #[test]

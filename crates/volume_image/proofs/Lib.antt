@@ -16,3 +16,5 @@ pub mod ItemLengths
 pub mod Filled
 pub mod Worked
 pub mod BareVolumes
+pub mod RootItems
+pub mod OwnKeys

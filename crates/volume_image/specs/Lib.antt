@@ -1,5 +1,6 @@
 pub mod Tree
 pub mod Subvolume
+pub mod Roots
 pub mod Stands
 pub mod Bare
 pub mod Worked

@@ -1,39 +1,26 @@
 -- Which image stands for which volume.
 use Rattle.std.specs.Prelude.{◌≡◌, ◌≤◌, ◌-◌, ◌/◌, ℕ, List, [], ◌∷◌, ◌++◌, length, map, All, slice_get, slice_index_or}
 use Rattle.std.specs.FinMap.{entries}
-use Rattle.blk_base.specs.declared.key.Want.{Want}
+use Rattle.blk_base.specs.declared.format.TheConstants.{BLOCK_SIZE, SUPER_BLOCK}
+use Rattle.blk_base.specs.declared.limits.TheConstants.{MOST_SUBS}
 use Rattle.blk_base.specs.Bytes.{zeros}
 use Rattle.blk_base.specs.Address.{IsAllowed}
-use Rattle.blk_base.specs.Keys.{root_tree, root_item}
 use Rattle.blk_base.specs.Leaf.{Item}
 use Rattle.blk_base.specs.Superblock.{SuperValue, IsSuper}
-use Rattle.blk_base.specs.Items.{RootValue, IsRoot}
+use Rattle.blk_base.specs.Items.{RootValue}
 use Rattle.flat_model.specs.Volume.{Subvolume, Volume, subvolume_ids}
 use Rattle.flat_model.specs.Coherent.{IsCoherentVolume}
 use Rattle.volume_image.specs.Tree.{Image, IsTree, NoneTwice}
-use Rattle.volume_image.specs.Subvolume.{Data, AreItemsOf, data_addresses, make_key}
+pub use Rattle.volume_image.specs.Roots.{root_want, sub_want, AreRootItems}
+use Rattle.volume_image.specs.Subvolume.{Data, AreItemsOf, data_addresses}
 
 -- the block of the superblock; a disk without it counts as zeros there ("Superblock")
 abbrev pub super_block : Image → List ℕ
-super_block image = slice_index_or image 16 (zeros 4096)
+super_block image = slice_index_or image SUPER_BLOCK (zeros BLOCK_SIZE)
 
 -- what stands at the byte address of a data block
 abbrev pub data_of : Image → Data
-data_of image at = slice_get image (at / 4096)
-
--- how the root tree is read: the superblock's generation, owner 1
-abbrev pub root_want : SuperValue → Want
-root_want super = record { fsid = super.fsid; at = record { 0 = super.root }; generation = super.generation; owner = root_tree; level = super.root_level }
-
--- how a subvolume's tree is read: the root item's generation, and the subvolume's id as owner
-abbrev pub sub_want : SuperValue → ℕ → RootValue → Want
-sub_want super id root = record { fsid = super.fsid; at = record { 0 = root.at }; generation = root.generation; owner = id; level = root.level }
-
--- The root tree has a root item for each of these subvolumes, in order, and nothing else ("ROOT_ITEM").
-abbrev pub AreRootItems : List Item → List ℕ → List RootValue → Type 0
-AreRootItems [] [] [] = Unit {0}
-AreRootItems (item ∷ items) (id ∷ ids) (root ∷ roots) = (item.0 ≡ make_key id root_item 0) × IsRoot item.1 root × AreRootItems items ids roots
-AreRootItems items ids roots = ⊥
+data_of image at = slice_get image (at / BLOCK_SIZE)
 
 -- A subvolume's tree has its items, and its data blocks have addresses that are allowed; all of these addresses are its reach.
 pub record IsSubvolumeAt (image : Image) (super : SuperValue) (id : ℕ) (root : RootValue) (sub : Subvolume) (reach : List ℕ) : Type 0 where
@@ -59,7 +46,7 @@ pub record IsCommitted (image : Image) (super : SuperValue) (volume : Volume) (r
   pub sub_reach : List ℕ
   pub root_tree : IsTree image super.blocks (root_want super) items root_reach
   pub least : 1 ≤ length roots
-  pub most : length roots ≤ 16
+  pub most : length roots ≤ MOST_SUBS
   pub root_items : AreRootItems items (subvolume_ids (length roots)) roots
   pub ids : map (λ (entry : ℕ × Subvolume). entry.0) (entries volume) ≡ subvolume_ids (length roots)
   pub subvolumes : AreSubvolumesAt image super roots (entries volume) sub_reach
@@ -96,5 +83,5 @@ pub record Stands (image : Image) (volume : Volume) : Type 0 where
 -- two images have the same superblock, the same number of blocks, and the same block at each of these addresses
 pub record AgreesOn (reach : List ℕ) (one two : Image) : Type 0 where
   pub size : length one ≡ length two
-  pub super : slice_get one 16 ≡ slice_get two 16
-  pub blocks : All (λ at. slice_get one (at / 4096) ≡ slice_get two (at / 4096)) reach
+  pub super : slice_get one SUPER_BLOCK ≡ slice_get two SUPER_BLOCK
+  pub blocks : All (λ at. slice_get one (at / BLOCK_SIZE) ≡ slice_get two (at / BLOCK_SIZE)) reach

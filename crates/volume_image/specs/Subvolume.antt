@@ -3,6 +3,7 @@ use Rattle.std.specs.Prelude.{◌≡◌, ◌≢◌, ◌≤◌, ◌<◌, ◌+◌,
 use Rattle.std.specs.List.{flat_map}
 use Rattle.std.specs.List.Sorted.{IsPermutation}
 use Rattle.std.specs.FinMap.{get, len, entries}
+use Rattle.blk_base.specs.declared.format.TheConstants.{BLOCK_SIZE, FIRST_FREE}
 use Rattle.blk_base.specs.declared.key.Key.{Key}
 use Rattle.blk_base.specs.declared.fault.ItemFault.{ItemFault}
 use Rattle.blk_base.specs.Crc.{name_hash_of, extref_hash_of}
@@ -41,7 +42,7 @@ size_of sub ino (LinkInode link) = length link.target
 
 -- the bytes of a file's data blocks, a target's length, and 0 of a directory
 abbrev pub nbytes_of : InodeRecord → ℕ
-nbytes_of (FileInode file) = 4096 * len file.blocks
+nbytes_of (FileInode file) = BLOCK_SIZE * len file.blocks
 nbytes_of (DirInode dir) = 0
 nbytes_of (LinkInode link) = length link.target
 
@@ -67,7 +68,7 @@ ref_of name = record { index = name.index; name = name.bytes }
 
 -- the root directory's one name for itself
 abbrev pub own_refs : ℕ → ℕ → List RefValue
-own_refs ino parent = if nat_eq ino 256 && nat_eq parent 256 then record { index = 0; name = dots } ∷ [] else []
+own_refs ino parent = if nat_eq ino FIRST_FREE && nat_eq parent FIRST_FREE then record { index = 0; name = dots } ∷ [] else []
 
 -- the near names of an inode in a directory, and for inode 256 the `..` of itself
 abbrev pub refs_asked : Subvolume → ℕ → ℕ → List RefValue
@@ -125,12 +126,12 @@ pub record HasEntries (kind : ℕ) (bytes : List ℕ) (asked : List EntryValue) 
 
 -- each block of a run of so many blocks has the bytes of the file's block of its number
 abbrev pub RunHolds : Data → FileRecord → ℕ → ℕ → ℕ → Type 0
-RunHolds blocks file number at count = (i : ℕ) → i < count → (block : List ℕ) × (blocks (at + 4096 * i) ≡ Some block) × (get file.blocks (number + i) ≡ Some block)
+RunHolds blocks file number at count = (i : ℕ) → i < count → (block : List ℕ) × (blocks (at + BLOCK_SIZE * i) ≡ Some block) × (get file.blocks (number + i) ≡ Some block)
 
 -- an extent item of a file is a run of its blocks, of a symlink its target; a directory has none
 abbrev pub IsExtentOf : Data → InodeRecord → Key → List ℕ → Type 0
 IsExtentOf blocks (FileInode file) key bytes =
-    (at : ℕ) × (len : ℕ) × IsExtent key bytes (Regular at 0 len) × RunHolds blocks file (key.offset / 4096) at (len / 4096)
+    (at : ℕ) × (len : ℕ) × IsExtent key bytes (Regular at 0 len) × RunHolds blocks file (key.offset / BLOCK_SIZE) at (len / BLOCK_SIZE)
 IsExtentOf blocks (DirInode dir) key bytes = ⊥
 IsExtentOf blocks (LinkInode link) key bytes = IsExtent key bytes (Inline link.target)
 
@@ -138,13 +139,24 @@ IsExtentOf blocks (LinkInode link) key bytes = IsExtent key bytes (Inline link.t
 
 -- The item is one that the subvolume asks for.
 pub data IsAsked (sub : Subvolume) (blocks : Data) (key : Key) (bytes : List ℕ) : Type 0 where
-  InodeAsked : (inode : InodeRecord) → key.kind ≡ inode_item → key.offset ≡ 0 → get sub.inodes key.objectid ≡ Some inode → IsInodeOf sub key.objectid inode bytes → IsAsked sub blocks key bytes
-  RefsAsked : (found : List RefValue) → key.kind ≡ inode_ref → IsRefs key bytes found → IsPermutation found (refs_asked sub key.objectid key.offset) → IsAsked sub blocks key bytes
-  ExtRefsAsked : (found : List ExtRefValue) → key.kind ≡ inode_extref → IsExtRefs bytes found → IsPermutation found (extrefs_asked sub key.objectid key.offset) → IsAsked sub blocks key bytes
-  AttributesAsked : key.kind ≡ xattr_item → HasEntries xattr_item bytes (attributes_asked sub key.objectid key.offset) → IsAsked sub blocks key bytes
-  HashedAsked : key.kind ≡ dir_item → HasEntries dir_item bytes (hashed_asked sub key.objectid key.offset) → IsAsked sub blocks key bytes
-  IndexedAsked : key.kind ≡ dir_index → HasEntries dir_index bytes (indexed_asked sub key.objectid key.offset) → IsAsked sub blocks key bytes
-  ExtentAsked : (inode : InodeRecord) → key.kind ≡ extent_data → get sub.inodes key.objectid ≡ Some inode → IsExtentOf blocks inode key bytes → IsAsked sub blocks key bytes
+  -- the item of an inode that is there, under offset 0
+  InodeAsked : (inode : InodeRecord) (kind : key.kind ≡ inode_item) (offset : key.offset ≡ 0) (there : get sub.inodes key.objectid ≡ Some inode)
+      (is : IsInodeOf sub key.objectid inode bytes) → IsAsked sub blocks key bytes
+  -- the near names of an inode in the directory of the key's offset
+  RefsAsked : (found : List RefValue) (kind : key.kind ≡ inode_ref) (spelled : IsRefs key bytes found)
+      (same : IsPermutation found (refs_asked sub key.objectid key.offset)) → IsAsked sub blocks key bytes
+  -- the far names of an inode with the hash of the key's offset
+  ExtRefsAsked : (found : List ExtRefValue) (kind : key.kind ≡ inode_extref) (spelled : IsExtRefs bytes found)
+      (same : IsPermutation found (extrefs_asked sub key.objectid key.offset)) → IsAsked sub blocks key bytes
+  -- the attributes of an inode whose names have the hash of the key's offset
+  AttributesAsked : (kind : key.kind ≡ xattr_item) (has : HasEntries xattr_item bytes (attributes_asked sub key.objectid key.offset)) → IsAsked sub blocks key bytes
+  -- the names in a directory with the hash of the key's offset
+  HashedAsked : (kind : key.kind ≡ dir_item) (has : HasEntries dir_item bytes (hashed_asked sub key.objectid key.offset)) → IsAsked sub blocks key bytes
+  -- the name in a directory at the index of the key's offset
+  IndexedAsked : (kind : key.kind ≡ dir_index) (has : HasEntries dir_index bytes (indexed_asked sub key.objectid key.offset)) → IsAsked sub blocks key bytes
+  -- an extent of a file from the byte of the key's offset on, or a symlink's target
+  ExtentAsked : (inode : InodeRecord) (kind : key.kind ≡ extent_data) (there : get sub.inodes key.objectid ≡ Some inode)
+      (is : IsExtentOf blocks inode key bytes) → IsAsked sub blocks key bytes
 
 -- how many bytes of its file an extent item covers
 abbrev pub extent_len : Key → List ℕ → ℕ
@@ -159,8 +171,8 @@ pub record CoversBlock (items : List Item) (ino number : ℕ) : Type 0 where
   pub offset : ℕ
   pub bytes : List ℕ
   pub there : Contains items (make_key ino extent_data offset, bytes)
-  pub from : offset ≤ 4096 * number
-  pub to : 4096 * number < offset + extent_len (make_key ino extent_data offset) bytes
+  pub from : offset ≤ BLOCK_SIZE * number
+  pub to : BLOCK_SIZE * number < offset + extent_len (make_key ino extent_data offset) bytes
 
 -- The items of a tree, with the data blocks that its extents lead to, are those of this subvolume: each item is asked for, and all that is asked for is there.
 pub record AreItemsOf (items : List Item) (blocks : Data) (sub : Subvolume) : Type 0 where
@@ -180,14 +192,14 @@ pub record AreItemsOf (items : List Item) (blocks : Data) (sub : Subvolume) : Ty
 -- the byte addresses of a run of so many blocks
 abbrev pub run_addresses : ℕ → ℕ → List ℕ
 run_addresses at zero = []
-run_addresses at (suc count) = at ∷ run_addresses (at + 4096) count
+run_addresses at (suc count) = at ∷ run_addresses (at + BLOCK_SIZE) count
 
 -- the byte addresses of the data blocks that an item leads to
 abbrev pub item_addresses : Item → List ℕ
 item_addresses item = if item.0.kind == extent_data then addresses_of (extent_of item.0 item.1) else []
   where
     addresses_of : Result ExtentValue ItemFault → List ℕ
-    addresses_of (Ok (Regular at offset len)) = run_addresses at (len / 4096)
+    addresses_of (Ok (Regular at offset len)) = run_addresses at (len / BLOCK_SIZE)
     addresses_of other = []
 
 -- those that all items lead to

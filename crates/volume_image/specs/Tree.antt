@@ -2,6 +2,7 @@
 use Rattle.std.specs.Prelude.{◌≡◌, ◌≤◌, ◌/◌, ℕ, zero, suc, Bool, true, false, ◌&&◌, not, nat_lt, ◌==◌, List, [], ◌∷◌, ◌++◌, length, Option, Some, None, Result, Ok, Err, Contains, slice_index_or, if◌then◌else◌}
 use Rattle.std.specs.List.{list_any}
 use Rattle.std.specs.Ordering.{is_eq}
+use Rattle.blk_base.specs.declared.format.TheConstants.{BLOCK_SIZE, MAX_LEVEL}
 use Rattle.blk_base.specs.declared.key.Key.{Key}
 use Rattle.blk_base.specs.declared.key.Want.{Want}
 use Rattle.blk_base.specs.declared.fault.BlockFault.{BlockFault}
@@ -12,47 +13,11 @@ pub use Rattle.blk_base.specs.Bytes.{Image}
 use Rattle.blk_base.specs.Address.{IsAllowed, is_allowed}
 use Rattle.blk_base.specs.Keys.{KeyBelow, key_cmp, key_below}
 use Rattle.blk_base.specs.Leaf.{Item, Pointer, IsLeaf, IsNode, leaf_of, node_of}
+pub use Rattle.blk_base.specs.Trees.{NoneTwice, AreApart, ItemsRise, first_key, first_pointer_key, child_want, least_items, least_pointers, AreChildren}
 
 -- the bytes of the block at a byte address; none outside the image
 abbrev pub block_of : Image → ℕ → List ℕ
-block_of image at = slice_index_or image (at / 4096) []
-
--- no address stands twice
-abbrev pub NoneTwice : List ℕ → Type 0
-NoneTwice [] = Unit {0}
-NoneTwice (at ∷ others) = (Contains others at → ⊥) × NoneTwice others
-
--- no address stands in both
-abbrev pub AreApart : List ℕ → List ℕ → Type 0
-AreApart one two = (at : ℕ) → Contains one at → Contains two at → ⊥
-
-abbrev pub first_key : List Item → Option Key
-first_key [] = None
-first_key (item ∷ items) = Some item.0
-
--- each key is below the next
-abbrev pub ItemsRise : List Item → Type 0
-ItemsRise [] = Unit {0}
-ItemsRise (item ∷ []) = Unit {0}
-ItemsRise (item ∷ next ∷ items) = KeyBelow item.0 next.0 × ItemsRise (next ∷ items)
-
--- a child is read with its pointer's address and generation, the same owner, and one level less ("Internal Node")
-abbrev pub child_want : Want → Pointer → ℕ → Want
-child_want want pointer level = record want { at = record { 0 = pointer.at }; generation = pointer.generation; level = level }
-
--- the least items of a leaf and the least pointers of a node, where it is the root and where it isn't (own)
-abbrev pub least_items : Bool → ℕ
-least_items is_root = if is_root then 0 else 1
-
-abbrev pub least_pointers : Bool → ℕ
-least_pointers is_root = if is_root then 2 else 30
-
--- the children's items, one list behind the other, and all that they reach
-abbrev pub AreChildren : (Pointer → List Item → List ℕ → Type 0) → List Pointer → List Item → List ℕ → Type 0
-AreChildren child [] items reach = (items ≡ []) × (reach ≡ [])
-AreChildren child (pointer ∷ pointers) items reach =
-    (part : List Item) × (rest : List Item) × (near : List ℕ) × (far : List ℕ)
-    × child pointer part near × AreChildren child pointers rest far × (items ≡ part ++ rest) × (reach ≡ near ++ far)
+block_of image at = slice_index_or image (at / BLOCK_SIZE) []
 
 -- A block on this level and those below it: a leaf holds the items; a node's children are subtrees whose first keys are the pointers' keys.
 abbrev pub IsSubtree : ℕ → Image → ℕ → Bool → Want → List Item → List ℕ → Type 0
@@ -66,7 +31,7 @@ IsSubtree (suc level) image blocks is_root want items reach =
 
 -- In a volume of so many blocks, the tree whose root is this one has these items in order and reaches these byte addresses.
 pub record IsTree (image : Image) (blocks : ℕ) (want : Want) (items : List Item) (reach : List ℕ) : Type 0 where
-  pub low : want.level ≤ 7
+  pub low : want.level ≤ MAX_LEVEL
   pub shape : IsSubtree want.level image blocks true want items reach
   pub order : ItemsRise items
   pub once : NoneTwice reach
@@ -120,10 +85,6 @@ is_full_and_first want least count under before first rest =
     if nat_lt count least then Err (Thin want.at) else
     if not (is_first_key under before first) then Err (Block want.at block_faults.Order) else rest
 
-abbrev pub first_pointer_key : List Pointer → Option Key
-first_pointer_key [] = None
-first_pointer_key (pointer ∷ pointers) = Some pointer.key
-
 abbrev pub is_top : Option Key → Bool
 is_top None = true
 is_top (Some key) = false
@@ -133,7 +94,7 @@ abbrev pub entered : {A : Type 0} → ℕ → Want → Walked → Result A LoadF
 entered blocks want before rest =
     if not (is_allowed blocks want.at.0) then Err (Outside want.at) else
     if was_reached want.at.0 before.reached then Err (Twice want.at) else
-    if nat_lt 7 want.level then Err (Level want.at) else rest
+    if nat_lt MAX_LEVEL want.level then Err (Level want.at) else rest
 
 -- what is met at this block and below, after what was met before; `under` is the key of the pointer to it, if it is no root
 abbrev pub walk_from : ℕ → Image → ℕ → Option Key → Want → Walked → Result Walked LoadFault

@@ -13,7 +13,8 @@ use Rattle.flat_model.specs.Contents.{bytes_read}
 use Rattle.flat_model.specs.Operations.{file_there}
 use Rattle.flat_model.specs.Volume.{Subvolume}
 use Rattle.flat_sub.specs.View.{name_view, names_view}
-use Rattle.volume_listing.specs.Listing.{Listed, links_shown, size_shown, sum_shown, hex8, step_shown, path_shown, target_shown, printed, line_of, attribute_lines, lines_at}
+use Rattle.io_edge.specs.Printed.{hex8, printed}
+use Rattle.volume_listing.specs.Listing.{Listed, links_shown, size_shown, sum_shown, step_shown, path_shown, target_shown, line_of, attribute_lines, lines_at}
 use Rattle.flat_record.specs.Reading.{target_of}
 use Rattle.flat_model.proofs.Maps.{some_same}
 use Rattle.std.specs.Option.{unwrap_or}

@@ -13,4 +13,3 @@ mod text;
 mod walk;
 
 pub use listing::{ListFault, write_listing};
-pub use text::{hex_digit, is_plain};

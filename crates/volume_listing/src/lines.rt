@@ -7,9 +7,10 @@ ghost use Rattle.blk_base.specs.Crc.{crc32c_of};
 ghost use Rattle.flat_model.specs.Contents.{bytes_read};
 ghost use Rattle.flat_model.specs.Operations.{file_there};
 ghost use Rattle.flat_sub.specs.View.{sub_view, IsWellKept};
-ghost use Rattle.volume_listing.specs.Listing.{kind_word, links_shown, size_shown, sum_shown, step_shown, path_shown, target_shown, word, printed, line_of, attribute_line, attribute_lines, lines_at, is_there, lines_of, count_of};
+ghost use Rattle.io_edge.specs.Printed.{printed};
+ghost use Rattle.volume_listing.specs.Listing.{kind_word, links_shown, size_shown, sum_shown, step_shown, path_shown, target_shown, word, line_of, attribute_line, attribute_lines, lines_at, is_there, lines_of, count_of};
 
-use crate::text::{bytes_of, put_number_word, put_printed, put_sum};
+use crate::text::{bytes_of, put_number_word};
 use crate::walk::{Found, all_of};
 use blk_base::{Name, OutOfMemory, Text, crc32c};
 use flat_model::{Kind, NameAt};
@@ -115,7 +116,7 @@ fn put_sum_word(alloc: Global, text: &mut Vec<u8>, inode: &Inode) -> Result<(), 
 {
     match inode.kind() {
         Kind::File => {
-            put_sum(text, sum_of(alloc, inode)?)?;
+            push_sum(text, sum_of(alloc, inode)?)?;
             text.push(b' ')?;
         }
         Kind::Dir | Kind::Link => text.extend_from_slice(b"- ")?,
@@ -128,7 +129,7 @@ fn put_step(text: &mut Vec<u8>, name: &Name) -> Result<(), OutOfMemory>
     ensures { OnOk result (text.new.items ≡ text.old.items ++ step_shown name.now) }
 {
     text.push(b'/')?;
-    put_printed(text, name.as_bytes())
+    push_printed(text, name.as_bytes())
 }
 
 /// Adds the names that lead to an inode, each behind a slash.
@@ -150,7 +151,7 @@ fn put_text(alloc: Global, text: &mut Vec<u8>, added: &Text) -> Result<(), OutOf
     ensures { OnOk result (text.new.items ≡ text.old.items ++ printed added.now) }
 {
     let bytes = bytes_of(alloc, added)?;
-    put_printed(text, &bytes)
+    push_printed(text, &bytes)
 }
 
 /// Adds a symlink's target behind a space.
@@ -199,7 +200,7 @@ fn put_attribute(
     ensures { OnOk result (text.new.items ≡ text.old.items ++ attribute_line (name.now, value.now)) }
 {
     text.extend_from_slice(b" attr ")?;
-    put_printed(text, name.as_bytes())?;
+    push_printed(text, name.as_bytes())?;
     text.push(b' ')?;
     put_text(alloc, text, value)?;
     text.push(b'\n')?;

@@ -9,7 +9,6 @@ ghost use Rattle.volume_listing.specs.Listing.{part_of, count_of, done_line, lis
 ghost use Rattle.volume_listing.specs.Parts.{part_at, count_at};
 
 use crate::lines::put_lines;
-use crate::text::put_number;
 use blk_base::OutOfMemory;
 use flat_sub::FlatSub;
 use flat_volume::FlatVolume;
@@ -35,7 +34,7 @@ fn put_part(alloc: Global, text: &mut Vec<u8>, id: u64, sub: &FlatSub) -> Result
     ensures count { IfOk result (λ count. count ≡ count_of (sub_view sub.now).sub) }
 {
     text.extend_from_slice(b"sub ")?;
-    put_number(alloc, text, u128::from(id))?;
+    push_number(alloc, text, u128::from(id))?;
     text.push(b'\n')?;
     put_lines(alloc, text, sub)
 }
@@ -62,7 +61,7 @@ fn put_done(alloc: Global, text: &mut Vec<u8>, lines: u128) -> Result<(), OutOfM
     ensures { OnOk result (text.new.items ≡ text.old.items ++ done_line lines) }
 {
     text.extend_from_slice(b"done ")?;
-    put_number(alloc, text, lines)?;
+    push_number(alloc, text, lines)?;
     text.push(b'\n')?;
     Ok(())
 }

@@ -17,71 +17,56 @@ fn name(alloc: Global, bytes: &[u8]) -> Result<Name, Fail> {
     Ok(Name::new(alloc, bytes)?)
 }
 
-/// Gives an inode a name in a directory.
-fn put_name(
-    alloc: Global,
-    volume: &mut FlatVolume,
-    sub: u64,
-    dir: u64,
-    index: u64,
-    bytes: &[u8],
-    ino: u64,
-) -> Result<(), Fail> {
-    let at = NameAt {
-        dir: Ino(dir),
-        index,
-        name: name(alloc, bytes)?,
-        ino: Ino(ino),
-    };
-    if !volume.has_sub(SubId(sub)) {
-        return Err(Fail::from("no subvolume"));
-    }
-    volume.put_name(alloc, SubId(sub), at, true)?;
-    Ok(())
-}
+/// Inodes, each of a subvolume, a number, a kind, a size and a target.
+type Inodes<'a> = &'a [(u64, u64, Kind, u64, &'a [u8])];
 
-/// Adds an inode.
-fn put_inode(
-    alloc: Global,
-    volume: &mut FlatVolume,
-    sub: u64,
-    ino: u64,
-    kind: Kind,
-    size: u64,
-    target: &[u8],
-) -> Result<(), Fail> {
-    let target = Text::new(alloc, target)?;
-    if !volume.has_sub(SubId(sub)) {
-        return Err(Fail::from("no subvolume"));
-    }
-    volume.put_inode(alloc, SubId(sub), Ino(ino), kind, size, target)?;
-    Ok(())
-}
+/// Names, each of a subvolume, a directory, an index, bytes and an inode.
+type Names<'a> = &'a [(u64, u64, u64, &'a [u8], u64)];
 
-#[test]
-fn a_bare_volume_has_its_root_directory(rt: HostRuntime) -> Result<(), Fail> {
-    let volume = FlatVolume::empty(rt.alloc(), 1)?;
-    let mut to = MemorySink::new(rt.alloc(), &[])?;
-    write_listing(rt.alloc(), &volume, &mut to)?;
-    assert_eq!(rt; to.bytes(), b"sub 5\n256 dir 1 0 - /\ndone 1\n".as_slice());
-    Ok(())
+/// A volume of two subvolumes with these inodes and names.
+fn built(alloc: Global, inodes: Inodes, names: Names) -> Result<FlatVolume, Fail> {
+    let mut volume = FlatVolume::empty(alloc, 2)?;
+    for (sub, ino, kind, size, target) in inodes {
+        let target = Text::new(alloc, target)?;
+        if !volume.has_sub(SubId(*sub)) {
+            return Err(Fail::from("no subvolume"));
+        }
+        volume.put_inode(alloc, SubId(*sub), Ino(*ino), *kind, *size, target)?;
+    }
+    for (sub, dir, index, bytes, ino) in names {
+        let at = NameAt {
+            dir: Ino(*dir),
+            index: *index,
+            name: name(alloc, bytes)?,
+            ino: Ino(*ino),
+        };
+        if !volume.has_sub(SubId(*sub)) {
+            return Err(Fail::from("no subvolume"));
+        }
+        volume.put_name(alloc, SubId(*sub), at, true)?;
+    }
+    Ok(volume)
 }
 
 #[test]
 fn names_stand_in_the_order_of_their_bytes(rt: HostRuntime) -> Result<(), Fail> {
     let alloc = rt.alloc();
-    let mut volume = FlatVolume::empty(alloc, 2)?;
-    put_inode(alloc, &mut volume, 5, 257, Kind::File, 0, b"")?;
-    put_inode(alloc, &mut volume, 5, 258, Kind::Dir, 0, b"")?;
-    put_inode(alloc, &mut volume, 5, 259, Kind::Link, 0, b"x\\y")?;
-    put_inode(alloc, &mut volume, 5, 260, Kind::File, 32, b"")?;
-    put_inode(alloc, &mut volume, 256, 257, Kind::File, 32, b"")?;
-    put_name(alloc, &mut volume, 5, 256, 2, b"b", 257)?;
-    put_name(alloc, &mut volume, 5, 256, 3, b"a d", 258)?;
-    put_name(alloc, &mut volume, 5, 256, 4, b"c", 257)?;
-    put_name(alloc, &mut volume, 5, 258, 2, b"\x7f", 260)?;
-    put_name(alloc, &mut volume, 5, 258, 3, b"l", 259)?;
-    put_name(alloc, &mut volume, 256, 256, 2, b"z", 257)?;
+    let inodes: [(u64, u64, Kind, u64, &[u8]); 5] = [
+        (5, 257, Kind::File, 0, b""),
+        (5, 258, Kind::Dir, 0, b""),
+        (5, 259, Kind::Link, 0, b"x\\y"),
+        (5, 260, Kind::File, 32, b""),
+        (256, 257, Kind::File, 32, b""),
+    ];
+    let names: [(u64, u64, u64, &[u8], u64); 6] = [
+        (5, 256, 2, b"b", 257),
+        (5, 256, 3, b"a d", 258),
+        (5, 256, 4, b"c", 257),
+        (5, 258, 2, b"\x7f", 260),
+        (5, 258, 3, b"l", 259),
+        (256, 256, 2, b"z", 257),
+    ];
+    let volume = built(alloc, &inodes, &names)?;
     let mut to = MemorySink::new(alloc, &[])?;
     write_listing(alloc, &volume, &mut to)?;
     let want =

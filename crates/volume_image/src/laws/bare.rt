@@ -1,10 +1,10 @@
 ghost use Rattle.std.specs.Prelude.{◌≡◌, ◌≤◌, ◌<◌, ◌+◌, ◌^◌, ◌++◌, ◌∷◌, ℕ, List, [], length, Ok};
 ghost use Rattle.blk_base.specs.Leaf.{leaf_of};
-ghost use Rattle.blk_base.specs.Items.{RootValue};
 ghost use Rattle.blk_base.specs.Superblock.{SuperValue, IsSuper};
 ghost use Rattle.flat_model.specs.Volume.{bare_volume, subvolume_ids};
 ghost use Rattle.volume_image.specs.Tree.{Image, IsTree, NoneTwice, block_of};
-ghost use Rattle.volume_image.specs.Stands.{StandsBy, super_block, root_want, sub_want};
+ghost use Rattle.volume_image.specs.Stands.{StandsBy, super_block};
+ghost use Rattle.volume_image.specs.Roots.{root_want, sub_want};
 ghost use Rattle.volume_image.specs.Bare.{AreBareLeaves, bare_items, bare_root, bare_root_items, bare_roots_items};
 
 /// A superblock without a log whose root tree is a leaf at block 17 with a root item for subvolume 5, whose tree is
@@ -28,13 +28,4 @@ pub fn bare_volumes_stand()
         → AreBareLeaves image super (subvolume_ids (length addresses)) addresses
         → NoneTwice (root_reach ++ addresses) → length (root_reach ++ addresses) + 198 ≤ super.blocks
         → StandsBy image (bare_volume (length addresses)) (root_reach ++ addresses) }
-{}
-
-/// The root tree is read with the superblock's generation and owner 1, a subvolume's tree with its root item's
-/// generation and its id as owner ("Header" and "ROOT_ITEM" of the on-disk format).
-pub fn roots_are_wanted()
-    ensures root { (super : SuperValue) → root_want super
-        ≡ record { fsid = super.fsid; at = record { 0 = super.root }; generation = super.generation; owner = 1; level = super.root_level } }
-    ensures subvolume { (super : SuperValue) (id : ℕ) (root : RootValue) → sub_want super id root
-        ≡ record { fsid = super.fsid; at = record { 0 = root.at }; generation = root.generation; owner = id; level = root.level } }
 {}

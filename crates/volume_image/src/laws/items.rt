@@ -1,7 +1,8 @@
-ghost use Rattle.std.specs.Prelude.{◌≡◌, ◌≢◌, ◌≤◌, ℕ, List, length, Contains, Some};
+ghost use Rattle.std.specs.Prelude.{◌≡◌, ◌≢◌, ◌≤◌, ℕ, List, length, Contains, IsTrue, Some};
 ghost use Rattle.std.specs.FinMap.{get};
 ghost use Rattle.blk_base.specs.declared.key.Key.{Key};
 ghost use Rattle.blk_base.specs.Keys.{dir_item, extent_data, inode_extref, inode_ref, xattr_item};
+ghost use Rattle.blk_base.specs.ItemFaults.{HasItsKey, IsSpelled, is_subvolume_kind};
 ghost use Rattle.blk_base.specs.Leaf.{Item};
 ghost use Rattle.flat_model.specs.Coherent.{IsCoherent};
 ghost use Rattle.flat_model.specs.Lengths.{dir_item_length, extref_item_length, link_extent_length, most_item_bytes, ref_item_length, xattr_item_length};
@@ -46,6 +47,18 @@ pub fn items_fit_leaves()
         → (dir : ℕ) (bytes : List ℕ) → Contains items (make_key 256 inode_ref dir, bytes) → (dir ≡ 256) × (length bytes ≡ 12) }
     ensures all { (sub : Subvolume) (blocks : Data) (items : List Item) → AreItemsOf items blocks sub → IsCoherent sub
         → (key : Key) (bytes : List ℕ) → Contains items (key, bytes) → length bytes ≤ most_item_bytes }
+{}
+
+/// Each item of a subvolume has a type that the items of a subvolume have, is spelled by the grammar of that type, so
+/// that it has no fault, and has the key that the format gives for its content ("Key" and the items of the on-disk
+/// format).
+pub fn items_have_their_keys()
+    ensures kind { (sub : Subvolume) (blocks : Data) (items : List Item) → AreItemsOf items blocks sub
+        → (key : Key) (bytes : List ℕ) → Contains items (key, bytes) → IsTrue (is_subvolume_kind key.kind) }
+    ensures spelled { (sub : Subvolume) (blocks : Data) (items : List Item) → AreItemsOf items blocks sub
+        → (key : Key) (bytes : List ℕ) → Contains items (key, bytes) → IsSpelled key bytes }
+    ensures key { (sub : Subvolume) (blocks : Data) (items : List Item) → AreItemsOf items blocks sub
+        → (key : Key) (bytes : List ℕ) → Contains items (key, bytes) → HasItsKey key bytes }
 {}
 
 /// Each block of a file that is no hole is in exactly one extent ("EXTENT_DATA" of the on-disk format).

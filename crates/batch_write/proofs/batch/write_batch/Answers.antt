@@ -1,5 +1,7 @@
-use Rattle.std.proofs.Common.{◌<◌, List, arith, is_ok}
-use Rattle.batch_write.specs.Batch.{AtBlock, NoSuper, blocks_of, numbers_of}
+use Rattle.std.proofs.Common.{◌<◌, ◌∷◌, [], List, arith, is_ok}
+use Rattle.batch_write.specs.Batch.{AtBlock, NoSuper, blocks_of, numbers_of, settle_calls, super_call}
+use Rattle.disk_model.proofs.CrashLaws.{TellsMore-joins}
+use Rattle.batch_write.proofs.CallLemmas.{super_failed, super_told}
 use Rattle.batch_write.proofs.ImageLemmas.{from_ok, to_on_ok, written_whole}
 use Rattle.batch_write.proofs.MomentLemmas.{IsSettled, batch_moments, leaves_before_super, leaves_done, leaves_tried}
 use Rattle.batch_write.proofs.batch.write_batch.Goals as goal
@@ -40,3 +42,19 @@ returns-clause-tried g c = λ failed.
     let none : NoSuper batch = λ k d within. (c.requires.places k d within).not_super in
     let settled : IsSettled batch (g.D.Disk.told c.settle.new.disk) = from_ok c.settle.result c.in_ok-map_err.ensures.variant c.settle.ensures.settled in
     leaves_tried batch c.args.superblock.now (g.D.Disk.told c.args.disk.now) (g.D.Disk.told c.settle.new.disk) (g.D.Disk.told c.write_super_again.new.disk) none c.settle.ensures.crash settled c.write_super_again.ensures.crash
+
+pub returns-clause-calls : goal.returns-clause-calls
+returns-clause-calls g c =
+    let batch : List AtBlock = blocks_of c.args.batch.now in
+    let mid = c.settle.new.disk in
+    let new = c.write_super_again.new.disk in
+    to_on_ok c.write_super_again.result
+    (λ ok. TellsMore-joins (g.D.Disk.told c.args.disk.now) (g.D.Disk.told mid) (g.D.Disk.told new) (settle_calls batch) (super_call c.args.superblock.now ∷ [])
+    (from_ok c.settle.result c.in_ok-map_err.ensures.variant c.settle.ensures.calls)
+    (super_told (g.D.Disk.told mid) (g.D.Disk.told new) c.args.superblock.now (is_ok c.write_super_again.result) (g.D.Disk.seen new) ok c.write_super_again.ensures.told))
+
+pub returns-clause-cut_last : goal.returns-clause-cut_last
+returns-clause-cut_last g c = λ failed.
+    let new = c.write_super_again.new.disk in
+    super_failed (g.D.Disk.told c.args.disk.now) (g.D.Disk.told c.settle.new.disk) (g.D.Disk.told new) (settle_calls (blocks_of c.args.batch.now)) c.args.superblock.now c.write_super_again.result _ (g.D.Disk.seen new) failed
+    (from_ok c.settle.result c.in_ok-map_err.ensures.variant c.settle.ensures.calls) c.write_super_again.ensures.told

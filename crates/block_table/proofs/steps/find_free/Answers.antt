@@ -1,7 +1,7 @@
-use Rattle.std.proofs.Common.{refl}
-use Rattle.block_table.proofs.Kept.{none_free}
+use Rattle.std.proofs.Common.{arith, ◌*◌}
+use Rattle.block_table.proofs.Free.{none_at_all}
 use Rattle.block_table.proofs.steps.find_free.Goals as goal
 
 pub unreachable-requires : goal.unreachable-requires
 unreachable-requires c =
-    none_free c.args.slots.now c.args.next (λ number above inside. c.in-None.ensures.none refl number above inside) (λ number zero below. c.in-None-free_between.ensures.none refl number zero below) c.requires.some
+    none_at_all c.args.slots.now (256 * c.loop-group.group) c.loop-group.invariant.0 (omega (arith, c.loop-group.invariant.1.count, c.loop-group-test.false, c.len-group-end.ensures, c.requires.knows.count)) c.requires.some

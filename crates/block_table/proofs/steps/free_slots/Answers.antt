@@ -2,7 +2,7 @@ use Rattle.std.proofs.Common.{◌≡◌, ◌+◌, ◌++◌, ◌∷◌, ◌∙◌
 use Rattle.std.proofs.lemmas.List.{length-replicate}
 use Rattle.block_table.specs.Slot.{BlockSlot, free_slot}
 use Rattle.block_table.specs.Table.{free_from, free_one}
-use Rattle.block_table.specs.Counts.{free_from-le-length, free_from-push, free_one-le, replicate-push}
+use Rattle.block_table.proofs.Counts.{free_from-le-length, free_from-push, free_one-le, replicate-push}
 use Rattle.block_table.proofs.steps.free_slots.Goals as goal
 
 pub overflow_add-free : goal.overflow_add-free

@@ -1,5 +1,6 @@
 use Rattle.std.proofs.Common.{◌≡◌, ◌∙◌, length, ap, sym, arith, Some, None}
-use Rattle.block_table.specs.TreeIn.{ItemsRise, block_at}
+use Rattle.blk_base.specs.Trees.{ItemsRise}
+use Rattle.block_table.specs.TreeIn.{block_at}
 use Rattle.tree_blocks.specs.Steps.{leaf_at}
 use Rattle.tree_blocks.proofs.Orders.{leaf_rise}
 use Rattle.cow_tree.proofs.Items.{absent_lower, absent_under, absent_upper, items_rise}

@@ -1,6 +1,6 @@
 use Rattle.std.proofs.Common.{◌∷◌, [], true}
 use Rattle.disk_model.specs.Disk.{Call}
-use Rattle.disk_model.specs.Laws.{TellsMore-joins}
+use Rattle.disk_model.proofs.CrashLaws.{TellsMore-joins}
 use Rattle.disk_memory.proofs.tests.publish.Goals as goal
 
 pub returns-clause-told : goal.returns-clause-told

@@ -1,4 +1,4 @@
-use Rattle.disk_model.specs.Laws.{leaves_after_flush}
+use Rattle.disk_model.proofs.CrashLaws.{leaves_after_flush}
 use Rattle.disk_model.proofs.laws.flush_settles.Goals as goal
 
 pub returns : goal.returns

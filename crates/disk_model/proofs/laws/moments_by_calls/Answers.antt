@@ -1,4 +1,4 @@
-use Rattle.disk_model.specs.Laws.{every_moment_from_throughout, throughout_from_every_moment_of}
+use Rattle.disk_model.proofs.CrashLaws.{every_moment_from_throughout, throughout_from_every_moment_of}
 use Rattle.disk_model.proofs.laws.moments_by_calls.Goals as goal
 
 pub returns : goal.returns

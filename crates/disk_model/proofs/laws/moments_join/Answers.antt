@@ -1,4 +1,4 @@
-use Rattle.disk_model.specs.Laws.{EveryMoment-joins}
+use Rattle.disk_model.proofs.CrashLaws.{EveryMoment-joins}
 use Rattle.disk_model.proofs.laws.moments_join.Goals as goal
 
 pub returns : goal.returns

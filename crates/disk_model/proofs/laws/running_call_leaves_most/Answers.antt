@@ -1,4 +1,4 @@
-use Rattle.disk_model.specs.Laws.{Leaves-before, Leaves-after}
+use Rattle.disk_model.proofs.CrashLaws.{Leaves-before, Leaves-after}
 use Rattle.disk_model.proofs.laws.running_call_leaves_most.Goals as goal
 
 pub returns-clause-before : goal.returns-clause-before

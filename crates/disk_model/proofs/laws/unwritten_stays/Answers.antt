@@ -1,4 +1,4 @@
-use Rattle.disk_model.specs.Laws.{EveryMoment-stays}
+use Rattle.disk_model.proofs.CrashLaws.{EveryMoment-stays}
 use Rattle.disk_model.proofs.laws.unwritten_stays.Goals as goal
 
 pub returns : goal.returns

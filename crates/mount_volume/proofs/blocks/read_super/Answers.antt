@@ -4,6 +4,8 @@ use Rattle.format_laws.specs.Superblock.{IsSuper-from_read}
 use Rattle.volume_format.specs.Views.{super_view}
 use Rattle.mount_volume.proofs.Told.{at_ok}
 use Rattle.mount_volume.proofs.Walks.{super_fails}
+use Rattle.disk_model.specs.Disk.{known}
+use Rattle.disk_model.proofs.CrashLaws.{known_told}
 use Rattle.mount_volume.proofs.blocks.read_super.Goals as goal
 
 pub returns-in-Ok-clause-least : goal.returns-in-Ok-clause-least
@@ -23,6 +25,6 @@ pub returns-in-Err-clause-fault : goal.returns-in-Err-clause-fault
 returns-in-Err-clause-fault g c =
     let disk = c.args.disk.now in
     let bytes = c.read_super_block.new.into in
-    super_fails (g.D.Disk.seen disk) bytes (g.D.Disk.count disk) c.in-Err.fault
+    super_fails (known (g.D.Disk.seen disk) (g.D.Disk.lost disk)) bytes (g.D.Disk.count disk) c.in-Err.fault
     (at_ok c.read_super_block.result (sym c.is_err.ensures.value ∙ c.if-is_err.false) c.read_super_block.ensures.bytes)
-    (g.met.D.Disk.reads_all disk) (ap (super_of bytes) (sym (c.blocks-2.ensures ∙ c.read_super_block.ensures.size)) ∙ sym c.in-Err.ensures)
+    (known_told (g.D.Disk.seen disk) (g.D.Disk.lost disk) _ (g.met.D.Disk.reads_all disk)) (ap (super_of bytes) (sym (c.blocks-2.ensures ∙ c.read_super_block.ensures.size)) ∙ sym c.in-Err.ensures)

@@ -1,5 +1,7 @@
 use Rattle.std.proofs.Common.{◌≤◌, arith}
 use Rattle.mount_volume.proofs.Walks.{super_past}
+use Rattle.disk_model.specs.Disk.{known}
+use Rattle.disk_model.proofs.CrashLaws.{known_told}
 use Rattle.mount_volume.proofs.blocks.read_super_block.Goals as goal
 
 pub returns-then-blocks-le-SUPER_BLOCK-clause-bytes :
@@ -7,4 +9,4 @@ pub returns-then-blocks-le-SUPER_BLOCK-clause-bytes :
 returns-then-blocks-le-SUPER_BLOCK-clause-bytes g c =
     let disk = c.args.disk.now in
     let few : g.D.Disk.count disk ≤ 16 = let test = c.if-blocks-le-SUPER_BLOCK.true in let same = c.blocks-2.ensures in omega arith in
-    super_past (g.D.Disk.seen disk) (g.D.Disk.count disk) (g.met.D.Disk.reads_all disk) few
+    super_past (known (g.D.Disk.seen disk) (g.D.Disk.lost disk)) (g.D.Disk.count disk) (known_told (g.D.Disk.seen disk) (g.D.Disk.lost disk) _ (g.met.D.Disk.reads_all disk)) few

@@ -3,6 +3,7 @@ use Rattle.flat_sub.specs.Building.{bare_run}
 use Rattle.leaf_items.proofs.Volumes.{lone_alone}
 use Rattle.mount_volume.proofs.Files.{told_candidate}
 use Rattle.mount_volume.proofs.Putting.{built_of}
+use Rattle.disk_model.specs.Disk.{known}
 use Rattle.mount_volume.proofs.mounting.load_volume.Goals as goal
 
 pub load_files-requires-clause-lone : goal.load_files-requires-clause-lone
@@ -10,7 +11,7 @@ load_files-requires-clause-lone g c = lone_alone c.in_ok-volume.volume bare_run 
 
 pub returns-clause-ok : goal.returns-clause-ok
 returns-clause-ok g c =
-    told_candidate (g.D.Disk.seen c.args.disk.now) c.args.leaf.now c.deref.result.now c.in_ok-volume.volume c.load_files.new.volume c.put_names.new.volume
+    told_candidate (known (g.D.Disk.seen c.args.disk.now) (g.D.Disk.lost c.args.disk.now)) c.args.leaf.now c.deref.result.now c.in_ok-volume.volume c.load_files.new.volume c.put_names.new.volume
     c.in_ok-volume.ensures (c.deref.ensures.value ∙ c.in_ok-found.ensures) c.in_ok-load_files.ensures.ok c.in_ok-put_names.ensures
 
 pub returns-clause-built : goal.returns-clause-built

@@ -8,17 +8,19 @@ use Rattle.mount_volume.proofs.Files.{files_inside, told_at}
 use Rattle.mount_volume.proofs.OwnBlocks.{body_rises, own_blocks}
 use Rattle.mount_volume.proofs.Volumes.{is_ready}
 use Rattle.mount_volume.proofs.Refusals.{handed_on, leaf_failed, looked_at, no_blocks, unsound, other_leaf, all_mounted, no_addresses, some_addresses, whole_reach, data_once, data_sound, told_whole}
+use Rattle.disk_model.specs.Disk.{known}
+use Rattle.disk_model.proofs.CrashLaws.{known_same}
 use Rattle.mount_volume.proofs.mounting.mount_sub.Goals as goal
 
 pub returns-in_err-read_leaf-clause-fault : goal.returns-in_err-read_leaf-clause-fault
 returns-in_err-read_leaf-clause-fault g c =
-    let seen = g.D.Disk.seen c.args.disk.now in
+    let seen = known (g.D.Disk.seen c.args.disk.now) (g.D.Disk.lost c.args.disk.now) in
     handed_on _ (IsToldFault seen) c.from_residual.result c.from_residual.ensures.1
     (λ e same. subst (IsToldFault seen) (sym same) (leaf_failed seen (super_view c.args.superblock) (root_view c.args.root) c.sub_want-want.result c.in_err-read_leaf.field-0.0 c.requires.leads c.sub_want-want.ensures c.in_err-read_leaf.ensures.fault))
 
 pub returns-in_default-clause-fault : goal.returns-in_default-clause-fault
 returns-in_default-clause-fault g c =
-    let seen = g.D.Disk.seen c.args.disk.now in
+    let seen = known (g.D.Disk.seen c.args.disk.now) (g.D.Disk.lost c.args.disk.now) in
     let super = super_view c.args.superblock in
     let root = root_view c.args.root in
     let items = c.of_body-leaf.result in
@@ -28,7 +30,7 @@ returns-in_default-clause-fault g c =
 pub returns-then-not-is_sound_reach-clause-fault :
     goal.returns-then-not-is_sound_reach-clause-fault
 returns-then-not-is_sound_reach-clause-fault g c =
-    let seen = g.D.Disk.seen c.args.disk.now in
+    let seen = known (g.D.Disk.seen c.args.disk.now) (g.D.Disk.lost c.args.disk.now) in
     let super = super_view c.args.superblock in
     let root = root_view c.args.root in
     let items = c.of_body-leaf.result in
@@ -58,18 +60,18 @@ load_volume-requires-clause-own_blocks g c =
 
 pub returns-then-not-is_leaf_of-clause-fault : goal.returns-then-not-is_leaf_of-clause-fault
 returns-then-not-is_leaf_of-clause-fault g c =
-    let seen = g.D.Disk.seen c.args.disk.now in
+    let seen = known (g.D.Disk.seen c.args.disk.now) (g.D.Disk.lost c.args.disk.now) in
     let super = super_view c.args.superblock in
     let root = root_view c.args.root in
     let items = c.of_body-leaf.result in
     other_leaf super root c.read_leaf.new.into items seen c.in_ok-volume.volume
     (looked_at seen super root c.sub_want-want.result c.read_leaf.new.into items c.requires.leads c.sub_want-want.ensures c.in_ok-read_leaf.ensures.walked c.of_body-leaf.ensures c.read_leaf.array_long)
-    (told_at _ c.in_ok-read_leaf.ensures.seen c.in_ok-volume.ensures.ok)
+    (told_at _ (known_same _ _ _ _ c.in_ok-read_leaf.ensures.seen c.in_ok-read_leaf.ensures.lost) c.in_ok-volume.ensures.ok)
     (λ leaf. false≢true (sym c.if-not-is_leaf_of.true ∙ c.is_leaf_of.ensures.1 leaf))
 
 pub returns-clause-stands : goal.returns-clause-stands
 returns-clause-stands g c =
-    let seen = g.D.Disk.seen c.args.disk.now in
+    let seen = known (g.D.Disk.seen c.args.disk.now) (g.D.Disk.lost c.args.disk.now) in
     let super = super_view c.args.superblock in
     let root = root_view c.args.root in
     let items = c.of_body-leaf.result in
@@ -79,12 +81,12 @@ returns-clause-stands g c =
     found.0
     (whole_reach c.args.superblock.root c.args.root.at c.deref.result.now c.in-Some.data.items c.in_ok-reach.reach.items items c.in_ok-reach.ensures c.deref.ensures.value found.1)
     (subst (λ xs. IsSoundReach c.args.superblock.blocks (addresses_of xs)) c.deref-2.ensures.value (c.is_sound_reach.ensures.0 c.if-not-is_sound_reach.false))
-    (told_at _ c.in_ok-read_leaf.ensures.seen c.in_ok-volume.ensures.ok)
+    (told_at _ (known_same _ _ _ _ c.in_ok-read_leaf.ensures.seen c.in_ok-read_leaf.ensures.lost) c.in_ok-volume.ensures.ok)
     (c.is_leaf_of.ensures.0 c.if-not-is_leaf_of.false)
 
 pub returns-clause-whole : goal.returns-clause-whole
 returns-clause-whole g c =
-    told_whole (g.D.Disk.seen c.args.disk.now) (record { superblock = c.args.superblock; volume = c.in_ok-volume.volume; reach = c.in_ok-reach.reach }) (super_view c.args.superblock) (root_view c.args.root)
+    told_whole (known (g.D.Disk.seen c.args.disk.now) (g.D.Disk.lost c.args.disk.now)) (record { superblock = c.args.superblock; volume = c.in_ok-volume.volume; reach = c.in_ok-reach.reach }) (super_view c.args.superblock) (root_view c.args.root)
     c.requires.leads (returns-clause-stands g c)
 
 pub returns-clause-ready : goal.returns-clause-ready

@@ -1,8 +1,8 @@
 use Rattle.std.proofs.Common.{List, ℕ, OnErr, codes, subst}
 use Rattle.io_edge.specs.Edge.{TakesFront}
 use Rattle.io_edge.proofs.Sinks.{OnErr-behind, TakesFront-more, on_err}
-use Rattle.volume_listing.specs.Listing.{printed}
-use Rattle.script_answer.proofs.Printed.{words_some}
+use Rattle.io_edge.specs.Printed.{printed}
+use Rattle.script_answer.proofs.SomeBytes.{words_some}
 use Rattle.script_answer.proofs.bytes.put_bytes.Goals as goal
 
 pub returns-in_err-put-clause-front : goal.returns-in_err-put-clause-front

@@ -1,7 +1,7 @@
 use Rattle.std.proofs.Common.{Err, ◌∙◌, ap, refl, subst}
 use Rattle.io_edge.specs.Edge.{Takes, TakesFront}
 use Rattle.mount_volume.specs.Answer.{HasRisen}
-use Rattle.script_source.specs.declared.reading.ReadFault.{ReadFault}
+use Rattle.io_edge.specs.declared.reading.ReadFault.{ReadFault}
 use Rattle.script_runner.specs.declared.status.Status.{Status}
 use Rattle.script_runner.specs.Commands.{answer_line}
 use Rattle.script_runner.specs.Run.{outside}

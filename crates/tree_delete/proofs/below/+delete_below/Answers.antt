@@ -1,7 +1,8 @@
 use Rattle.std.proofs.Common.{◌≡◌, ◌⊎◌, ◌≤◌, ◌<◌, ◌+◌, ◌-◌, ◌*◌, ◌++◌, ℕ, suc, List, [], ◌∷◌, length, Some, ap, ◌∙◌, sym, subst, arith}
 use Rattle.std.specs.Prelude.{insert, remove}
 use Rattle.blk_base.specs.Leaf.{Pointer}
-use Rattle.block_table.specs.TreeIn.{block_at, first_key}
+use Rattle.blk_base.specs.Trees.{first_key}
+use Rattle.block_table.specs.TreeIn.{block_at}
 use Rattle.leaf_view.specs.Search.{IsPlace, pointer_keys}
 use Rattle.tree_blocks.specs.Steps.{node_at}
 use Rattle.tree_blocks.proofs.Listing.{node_from_ok}

@@ -3,7 +3,8 @@ use Rattle.std.specs.Prelude.{insert, remove}
 use Rattle.std.proofs.lemmas.List.Elements.{All-cons, All-head, All-nil}
 use Rattle.blk_base.specs.Leaf.{Item, Pointer}
 use Rattle.block_table.specs.declared.state.SlotState.TheVariants.{Dirty, LetGo}
-use Rattle.block_table.specs.TreeIn.{block_at, first_key}
+use Rattle.blk_base.specs.Trees.{first_key}
+use Rattle.block_table.specs.TreeIn.{block_at}
 use Rattle.leaf_view.specs.Search.{IsPlace, keys_of, pointer_keys}
 use Rattle.tree_blocks.specs.Steps.{node_at}
 use Rattle.tree_blocks.proofs.Listing.{leaf_from_ok}

@@ -3,7 +3,7 @@ use Rattle.block_table.specs.TreeIn.{block_at}
 use Rattle.tree_range.specs.Path.{IsChildPlace}
 use Rattle.tree_blocks.specs.Steps.{node_at}
 use Rattle.tree_blocks.proofs.Listing.{node_least}
-use Rattle.tree_delete.proofs.Places.{place_found, place_absent}
+use Rattle.tree_range.proofs.Children.{place_found, place_absent}
 use Rattle.tree_delete.proofs.node.child_place.Goals as goal
 
 pub returns-in-Ok : goal.returns-in-Ok

@@ -4,7 +4,7 @@ use Rattle.blk_base.specs.declared.key.Key.{Key}
 use Rattle.blk_base.specs.Leaf.{Pointer}
 use Rattle.leaf_view.specs.Search.{IsPlace, pointer_keys}
 use Rattle.tree_blocks.specs.Steps.{node_at}
-use Rattle.tree_delete.proofs.Cuts.{at_within}
+use Rattle.tree_range.proofs.Cuts.{at_within}
 use Rattle.tree_delete.proofs.Pairs.{both_written, key_is, pointer_is, same_node, to_kept}
 use Rattle.tree_delete.proofs.pair.move_pointer.Goals as goal
 

@@ -30,8 +30,8 @@ node_len-requires-clause-node c =
     let less : IsLessNode (c.args.tree.level - 1) c.args.table.now c.delete_below-root.new.table c.args.tree.root.0 c.delete_below-root.result.0 c.args.key.now = c.delete_below-root.ensures in
     node_from_ok (block_at c.delete_below-root.new.table c.delete_below-root.result.0).bytes less.shape.body
 
-pub returns-then-node_len-ge-LEAST_IN_ROOT : goal.returns-then-node_len-ge-LEAST_IN_ROOT
-returns-then-node_len-ge-LEAST_IN_ROOT c =
+pub returns-then-node_len-ge-LEAST_ROOT_POINTERS : goal.returns-then-node_len-ge-LEAST_ROOT_POINTERS
+returns-then-node_len-ge-LEAST_ROOT_POINTERS c =
     let old = c.args.table.now in
     let mid = c.delete_below-root.new.table in
     let tree = c.args.tree in
@@ -42,7 +42,7 @@ returns-then-node_len-ge-LEAST_IN_ROOT c =
     let below = root_below level old tree key one c.requires.tree c.requires.current c.requires.present in
     let less : IsLessNode level old mid tree.root.0 root.0 key = c.delete_below-root.ensures in
     let result : Tree = record { root = root; level = tree.level; owner = tree.owner } in
-    let long : 2 ≤ length (node_pointers mid root.0) = omega (arith, c.node_len.ensures.value, c.if-node_len-ge-LEAST_IN_ROOT.true, ap (λ (l : List Pointer). length l) (node_same mid root.0)) in
+    let long : 2 ≤ length (node_pointers mid root.0) = omega (arith, c.node_len.ensures.value, c.if-node_len-ge-LEAST_ROOT_POINTERS.true, ap (λ (l : List Pointer). length l) (node_same mid root.0)) in
     less_tree (suc level) old mid tree result key c.requires.tree one refl (root_stays level old mid tree key root.0 one c.requires.tree.low below less result refl long)
 
 pub node_child-requires-clause-node : goal.node_child-requires-clause-node
@@ -62,7 +62,7 @@ returns c =
     let below = root_below level old tree key one c.requires.tree c.requires.current c.requires.present in
     let less : IsLessNode level old mid tree.root.0 root.0 key = c.delete_below-root.ensures in
     let body = node_from_ok (block_at mid root.0).bytes less.shape.body in
-    let only = only_pointer (node_at mid root.0) c.node_child.result.0.0 c.node_child.result.1 (node_some mid root.0 body) (omega (arith, c.node_len.ensures.value, c.if-node_len-ge-LEAST_IN_ROOT.false)) c.node_child.ensures in
+    let only = only_pointer (node_at mid root.0) c.node_child.result.0.0 c.node_child.result.1 (node_some mid root.0 body) (omega (arith, c.node_len.ensures.value, c.if-node_len-ge-LEAST_ROOT_POINTERS.false)) c.node_child.ensures in
     let result : Tree = record { root = c.node_child.result.0; level = level; owner = tree.owner } in
     let let_go = gone mid c.let_go.new.self root less.shape.taken.allowed less.shape.taken.taken c.let_go.ensures.dirty c.let_go.ensures.written in
     less_tree level old c.let_go.new.self tree result key c.requires.tree refl refl (root_falls level old mid tree key root.0 one c.requires.tree.low below less c.let_go.new.self result only.0 (node_same mid root.0 ∙ only.1) only.2 let_go)

@@ -3,7 +3,7 @@ use Rattle.std.specs.FinMap.{get}
 use Rattle.flat_model.specs.Records.{attributes_of}
 use Rattle.flat_sub.specs.View.{sub_view}
 use Rattle.volume_listing.specs.Listing.{Listed, line_of, attribute_lines}
-use Rattle.volume_listing.proofs.Texts.{joined}
+use Rattle.io_edge.proofs.Texts.{joined}
 use Rattle.volume_listing.proofs.Shown.{lines_some, lines_none}
 use Rattle.volume_listing.proofs.lines.put_found.Goals as goal
 

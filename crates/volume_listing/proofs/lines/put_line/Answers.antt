@@ -4,7 +4,7 @@ use Rattle.flat_model.specs.declared.view.Kind.{Kind}
 use Rattle.flat_model.specs.Records.{kind_of}
 use Rattle.flat_sub.specs.View.{sub_view}
 use Rattle.volume_listing.specs.Listing.{Listed, kind_word, links_shown, size_shown, sum_shown, path_shown, target_shown, word, line_of}
-use Rattle.volume_listing.proofs.Texts.{joined}
+use Rattle.io_edge.proofs.Texts.{joined}
 use Rattle.volume_listing.proofs.lines.put_line.Goals as goal
 
 pub returns : goal.returns

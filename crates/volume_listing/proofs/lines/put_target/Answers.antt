@@ -1,6 +1,6 @@
 use Rattle.std.proofs.Common.{◌++◌, List, ℕ, sym, ap, ◌∙◌, codes, append-nil}
-use Rattle.volume_listing.specs.Listing.{printed}
-use Rattle.volume_listing.proofs.Texts.{on_ok, joined}
+use Rattle.io_edge.specs.Printed.{printed}
+use Rattle.io_edge.proofs.Texts.{on_ok, joined}
 use Rattle.volume_listing.proofs.Shown.{target_none, target_some}
 use Rattle.volume_listing.proofs.lines.put_target.Goals as goal
 

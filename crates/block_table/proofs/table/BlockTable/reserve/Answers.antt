@@ -1,4 +1,4 @@
-use Rattle.block_table.specs.Counts.{used_of-le-length}
+use Rattle.block_table.proofs.Counts.{used_of-le-length}
 use Rattle.block_table.proofs.Kept.{IsTable-reserved}
 use Rattle.std.proofs.Common.{arith}
 use Rattle.block_table.proofs.table.BlockTable.reserve.Goals as goal

@@ -1,18 +1,11 @@
 use Rattle.std.proofs.Common.{◌≡◌, ◌+◌, length, cond, rules, refl}
-use Rattle.disk_memory.proofs.Records.{reads_after_flush, told_after_flush, no_flush_after_flush, no_super_more}
+use Rattle.disk_memory.proofs.Records.{reads_after_flush, told_after_flush, lost_after_flush, no_super_more}
 use Rattle.disk_memory.proofs.kept.Kept.flush.Goals as goal
-use Rattle.disk_memory.proofs.kept.Kept.flush.Goals.{then-ok, else-ok}
 
 pub invariant_of-self-clause-reads : goal.invariant_of-self-clause-reads
 invariant_of-self-clause-reads c =
     let disk = c.args.self.now in
     reads_after_flush disk.first.items.items disk.image.items.items disk.entries.items _ c.args.ok disk.reads c.push_reserved.ensures.items
-
-pub invariant_of-self-clause-flushed_last : goal.invariant_of-self-clause-flushed_last
-invariant_of-self-clause-flushed_last c =
-    let disk = c.args.self.now in
-    let now : c.if-ok.self.1.1.1.1.1.0 ≡ cond c.args.ok (length disk.entries.items + 1) disk.flushed = elim c.if-ok.branch [ then-ok w ↦ search rules | else-ok w ↦ search rules ] in
-    no_flush_after_flush disk.flushed c.if-ok.self.1.1.1.1.1.0 disk.entries.items _ c.args.ok disk.flushed_before disk.flushed_last now c.push_reserved.ensures.items
 
 pub invariant_of-self-clause-super_last : goal.invariant_of-self-clause-super_last
 invariant_of-self-clause-super_last c =
@@ -23,3 +16,8 @@ pub returns-clause-told : goal.returns-clause-told
 returns-clause-told c =
     let disk = c.args.self.now in
     told_after_flush disk.first.items.items disk.image.items.items disk.entries.items _ c.args.ok disk.reads c.push_reserved.ensures.items
+
+pub returns-clause-lost : goal.returns-clause-lost
+returns-clause-lost c =
+    let disk = c.args.self.now in
+    lost_after_flush disk.first.items.items disk.entries.items _ c.args.ok (told_after_flush disk.first.items.items disk.image.items.items disk.entries.items _ c.args.ok disk.reads c.push_reserved.ensures.items)

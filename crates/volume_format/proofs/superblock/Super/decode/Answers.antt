@@ -40,7 +40,7 @@ returns-then-not-is_allowed c =
     ∙ finds_none _ _ _ (sym c.has_wrong_sum.ensures ∙ c.if-has_wrong_sum.false)
     ∙ passes _ _ _ (sym c.is_profile.ensures ∙ c.if-not-is_profile.false)
     ∙ passes _ _ _ (sym total ∙ sym c.is_size.ensures ∙ c.if-not-is_size.false)
-    ∙ fails _ _ _ (sym root ∙ sym c.is_allowed.ensures ∙ c.if-not-is_allowed.true))
+    ∙ fails _ _ _ (sym root ∙ sym c.is_allowed.ensures.test ∙ c.if-not-is_allowed.true))
 
 pub returns-then-found-gt-MAX_LEVEL : goal.returns-then-found-gt-MAX_LEVEL
 unfolding super_of
@@ -52,7 +52,7 @@ returns-then-found-gt-MAX_LEVEL c =
     ∙ finds_none _ _ _ (sym c.has_wrong_sum.ensures ∙ c.if-has_wrong_sum.false)
     ∙ passes _ _ _ (sym c.is_profile.ensures ∙ c.if-not-is_profile.false)
     ∙ passes _ _ _ (sym total ∙ sym c.is_size.ensures ∙ c.if-not-is_size.false)
-    ∙ passes _ _ _ (sym root ∙ sym c.is_allowed.ensures ∙ c.if-not-is_allowed.false)
+    ∙ passes _ _ _ (sym root ∙ sym c.is_allowed.ensures.test ∙ c.if-not-is_allowed.false)
     ∙ finds _ _ _ (sym level ∙ lt-ltb _ _ c.if-found-gt-MAX_LEVEL.true))
 
 pub returns-then-is_log_level_wrong : goal.returns-then-is_log_level_wrong
@@ -66,7 +66,7 @@ returns-then-is_log_level_wrong c =
     ∙ finds_none _ _ _ (sym c.has_wrong_sum.ensures ∙ c.if-has_wrong_sum.false)
     ∙ passes _ _ _ (sym c.is_profile.ensures ∙ c.if-not-is_profile.false)
     ∙ passes _ _ _ (sym total ∙ sym c.is_size.ensures ∙ c.if-not-is_size.false)
-    ∙ passes _ _ _ (sym root ∙ sym c.is_allowed.ensures ∙ c.if-not-is_allowed.false)
+    ∙ passes _ _ _ (sym root ∙ sym c.is_allowed.ensures.test ∙ c.if-not-is_allowed.false)
     ∙ finds_none _ _ _ (sym level ∙ le-ltb _ _ c.if-found-gt-MAX_LEVEL.false)
     ∙ finds _ _ _ (sym log ∙ sym c.is_log_level_wrong.ensures ∙ c.if-is_log_level_wrong.true))
 
@@ -82,6 +82,6 @@ returns c =
     ∙ finds_none _ _ _ (sym c.has_wrong_sum.ensures ∙ c.if-has_wrong_sum.false)
     ∙ passes _ _ _ (sym c.is_profile.ensures ∙ c.if-not-is_profile.false)
     ∙ passes _ _ _ (sym total ∙ sym c.is_size.ensures ∙ c.if-not-is_size.false)
-    ∙ passes _ _ _ (sym root ∙ sym c.is_allowed.ensures ∙ c.if-not-is_allowed.false)
+    ∙ passes _ _ _ (sym root ∙ sym c.is_allowed.ensures.test ∙ c.if-not-is_allowed.false)
     ∙ finds_none _ _ _ (sym level ∙ le-ltb _ _ c.if-found-gt-MAX_LEVEL.false)
     ∙ finds_none _ _ _ (sym log ∙ sym c.is_log_level_wrong.ensures ∙ c.if-is_log_level_wrong.false))

@@ -1,0 +1,5 @@
+use Rattle.std.proofs.Common.{refl}
+use Rattle.volume_image.proofs.laws.roots.roots_are_wanted.Goals as goal
+
+pub returns : goal.returns
+returns c = record { root = λ super. refl; subvolume = λ super id root. refl }
