@@ -1,15 +1,14 @@
 -- Facts on how many elements lists have: of distinct elements, of filters, and over keys.
-use Rattle.std.proofs.Common.{◌≡◌, ℕ, ◌+◌, ◌<◌, ◌≤◌, Bool, true, false, cond, not, ◌&&◌, T, List, [], ◌∷◌, ◌++◌, map, length, refl, sym, ap, subst, ◌∙◌, arith, inl, inr, ◌⊎◌, length-append}
+use Rattle.std.proofs.Common.{◌≡◌, ℕ, ◌+◌, ◌≤◌, Bool, true, false, cond, ◌&&◌, T, List, [], ◌∷◌, ◌++◌, map, length, refl, sym, ap, subst, ◌∙◌, arith, inl, inr, ◌⊎◌, length-append}
 use Rattle.std.specs.Bool.{nat_eq, nat_lt}
 use Rattle.std.specs.Ordering.{nat_cmp, is_lt}
 use Rattle.std.specs.Cmp.{nat_cmp_total, tied_itself}
 use Rattle.std.specs.List.{Contains, filter, list_all, sum_by}
-use Rattle.std.specs.FinMap.{FinMap, get, keys, entries, len, entries_sorted, len-entries, is_sorted}
+use Rattle.std.specs.FinMap.{FinMap, keys, entries, len, entries_sorted, len-entries, is_sorted}
 use Rattle.std.specs.FinMap.Entries.{below_all}
 use Rattle.std.proofs.lemmas.Bool.{true≢false, and_parts, ltb-true, cases_eq, eq-eqb, ne_eqb, false_from_ne_true}
 use Rattle.std.proofs.lemmas.List.Sums.{sum_by-cons, sum_by-append}
-use Rattle.std.proofs.lemmas.List.Elements.{Contains-append_left, Contains-append_right, Contains-append_cases}
-use Rattle.flat_model.proofs.Lists.{contains_head, contains_tail, contains_none, contains_cases, contains_filter, filter_contains}
+use Rattle.flat_model.proofs.Lists.{contains_head, contains_tail, contains_none, contains_cases, filter_contains}
 use Rattle.flat_model.proofs.Ways.{split_around}
 use Rattle.logged_volume.specs.Numbers.{is_number_set, add_number, number_set}
 use Rattle.logged_volume.specs.FlatLog.{AreDistinct}
@@ -149,11 +148,12 @@ module _ {X : Type 0} where
   length_by_key key ks (x ∷ xs) within =
       let rest = length_by_key key ks xs (λ y c. within y (contains_tail x xs y c)) in
       let more = sum_lt (λ k. length (filter (λ x. nat_eq (key x) k) xs)) (λ k. length (filter (λ x. nat_eq (key x) k) (x ∷ xs))) ks
-        (λ k c. grows k) (key x) (within x (contains_head x xs)) (at_own) in
+      (λ k c. grows k) (key x) (within x (contains_head x xs)) (at_own) in
       omega (arith, rest, more)
     where
       grows : (k : ℕ) → length (filter (λ x. nat_eq (key x) k) xs) ≤ length (filter (λ x. nat_eq (key x) k) (x ∷ xs))
       grows k = elim (nat_eq (key x) k) as (λ b. length (filter (λ x. nat_eq (key x) k) xs) ≤ length (cond b (x ∷ filter (λ x. nat_eq (key x) k) xs) (filter (λ x. nat_eq (key x) k) xs))) [ true ↦ omega arith | false ↦ omega arith ]
+
       at_own : length (filter (λ y. nat_eq (key y) (key x)) xs) + 1 ≤ length (filter (λ y. nat_eq (key y) (key x)) (x ∷ xs))
       at_own =
           let is : filter (λ y. nat_eq (key y) (key x)) (x ∷ xs) ≡ x ∷ filter (λ y. nat_eq (key y) (key x)) xs =

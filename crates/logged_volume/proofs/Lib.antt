@@ -17,3 +17,4 @@ pub mod Counts
 pub mod WeightBounds
 pub mod WeightSteps
 pub mod Intervals
+pub mod Agreements

@@ -1,28 +1,26 @@
 -- The items of a log, counted entry by entry, are at most the weight of the steps that wrote it.
-use Rattle.std.proofs.Common.{◌≡◌, ℕ, ◌+◌, ◌-◌, ◌*◌, ◌^◌, ◌<◌, ◌≤◌, max, Bool, true, false, cond, not, ◌&&◌, ◌||◌, List, [], ◌∷◌, ◌++◌, map, length, flat_map, Option, Some, None, refl, sym, ap, subst, ◌∙◌, arith, inl, inr, ◌⊎◌, length-append, MatchBool}
+use Rattle.std.proofs.Common.{◌≡◌, ℕ, ◌+◌, ◌-◌, ◌*◌, ◌≤◌, Bool, true, false, cond, not, ◌&&◌, List, [], ◌∷◌, ◌++◌, map, length, flat_map, Option, Some, None, refl, sym, ap, subst, ◌∙◌, arith, inl, inr, ◌⊎◌}
 use Rattle.std.specs.Bool.{nat_eq}
 use Rattle.std.specs.Option.{is_some}
-use Rattle.std.specs.List.{Contains, filter, list_any, sum_by}
+use Rattle.std.specs.List.{Contains, filter, sum_by}
 use Rattle.std.specs.FinMap.{get, keys, len}
-use Rattle.std.proofs.lemmas.Bool.{true≢false, or_cases, or_left, or_right, and_parts, and_from, eqb-true, eq-eqb, ne_eqb, not-true, not_from_false, cases_eq, false_from_ne_true}
-use Rattle.std.proofs.lemmas.List.Elements.{Contains-append_left, Contains-append_right, Contains-append_cases, filter-append}
-use Rattle.flat_model.specs.Records.{InodeRecord, FileInode, DirInode, LinkInode, FileRecord, Blocks, attributes_of}
+use Rattle.std.proofs.lemmas.Bool.{true≢false, or_cases, or_left, or_right, eqb-true, ne_eqb, not-true, cases_eq}
+use Rattle.std.proofs.lemmas.List.Elements.{Contains-append_left, Contains-append_right, Contains-append_cases}
+use Rattle.flat_model.specs.Records.{InodeRecord, FileInode, DirInode, LinkInode, FileRecord, Blocks}
 use Rattle.flat_model.specs.Names.{FlatName, leads_to, stands_in, links_of, entries_of}
 use Rattle.flat_model.specs.Volume.{Subvolume, is_dir_at}
 use Rattle.flat_model.proofs.Lists.{contains_head, contains_none, contains_filter, filter_contains, filter_swaps}
-use Rattle.flat_model.proofs.Maps.{some_same, some_none}
-use Rattle.flat_model.proofs.NameSets.{same_name_set, is_name_set_filter}
 use Rattle.logged_volume.specs.Numbers.{is_in, number_set, gaps, is_met, gaps_with}
 use Rattle.logged_volume.specs.Agreement.{is_there}
-use Rattle.logged_volume.specs.FlatLog.{FileChanges, WholeInode, WholeFile, WholeDir, WholeLink, LogRange, LogEntry, FlatLog, empty_log, is_logged, is_covered, AreDistinct}
+use Rattle.logged_volume.specs.FlatLog.{FileChanges, WholeInode, WholeFile, WholeDir, WholeLink, LogRange, LogEntry, FlatLog, is_logged, AreDistinct}
 use Rattle.logged_volume.specs.Replay.{blocks_of}
-use Rattle.logged_volume.specs.Written.{blocks_in, holes_of, IsChangesOf, IsWholeOf}
+use Rattle.logged_volume.specs.Written.{blocks_in, IsChangesOf, IsWholeOf}
 use Rattle.logged_volume.specs.Standing.{IsLogOf}
 use Rattle.logged_volume.specs.Weight.{MadeStep, step_members, member_weight, record_weight, target_weight, listed_weight, gone_weight, greatest, inode_weight, drawn_by, weight_of, change_count, made_count, logged_inodes, item_count}
-use Rattle.logged_volume.proofs.Members.{in_from, in_gives, number_set_has, number_set_gives, is_set_number_set, key_is_in}
+use Rattle.logged_volume.proofs.Members.{in_gives, number_set_has, number_set_gives, is_set_number_set, key_is_in}
 use Rattle.logged_volume.proofs.Gaps.{map_has}
 use Rattle.logged_volume.proofs.Wholes.{key_has}
-use Rattle.logged_volume.proofs.Counts.{sum_le, sum_plus, sum_within, length_within, length_by_key, keys_by_length, set_distinct, length_number_set, keys_distinct, len_keys, filter_le}
+use Rattle.logged_volume.proofs.Counts.{sum_le, sum_plus, sum_within, length_within, length_by_key, keys_by_length, set_distinct, length_number_set, keys_distinct, len_keys}
 
 -- ---- what a whole inode holds
 
@@ -47,7 +45,7 @@ gaps_with_count without others high =
 file_count : (old : Blocks) (file : FileRecord) (changes : FileChanges) → IsChangesOf old file changes → len changes.attributes + len changes.blocks + length changes.holes ≤ len file.attributes + 2 * len file.blocks + 1
 file_count old file changes is =
     let blocks = length_within (keys changes.blocks) (keys file.blocks) (keys_distinct changes.blocks)
-      (λ number c. let has = key_has changes.blocks number c in key_is_in file.blocks number has.0 (is.brought number has.0 has.1)) in
+    (λ number c. let has = key_has changes.blocks number c in key_is_in file.blocks number has.0 (is.brought number has.0 has.1)) in
     let holes = ap length is.holes ∙ map_count (λ (gap : ℕ × ℕ). (gap.0, gap.1 - gap.0)) (gaps_with (keys file.blocks) (keys old) (blocks_in file.size)) in
     omega (arith, ap len is.attributes, blocks, len_keys changes.blocks, len_keys file.blocks, holes, gaps_with_count (keys file.blocks) (keys old) (blocks_in file.size))
 
@@ -143,8 +141,8 @@ module _ (committed : Subvolume) (steps : List MadeStep) (logged : Subvolume) (l
       let weight = λ (ino : ℕ). greatest (member_weight ino) steps + greatest (target_weight ino) steps in
       let names = length_by_key (λ (name : FlatName). name.ino) (logged_inodes log) log.names (λ name c. logged_is_inode name.ino (is.names_are name c).1) in
       let each = sum_le (λ ino. items ino + links_of log.names ino) weight (logged_inodes log) (λ ino c.
-          let t = inode_is_logged ino c in
-          omega (arith, made_count_le (get log.existing ino), are.members ino t, are.changes ino)) in
+      let t = inode_is_logged ino c in
+      omega (arith, made_count_le (get log.existing ino), are.members ino t, are.changes ino)) in
       let within = sum_within weight (logged_inodes log) (drawn_by steps) (set_distinct _ (is_set_number_set (keys log.whole ++ keys log.existing))) (λ ino c. inl (are.drawn ino (inode_is_logged ino c))) in
       omega (arith, names, each, within, sum_plus items (links_of log.names) (logged_inodes log))
 
@@ -152,7 +150,7 @@ module _ (committed : Subvolume) (steps : List MadeStep) (logged : Subvolume) (l
   lost_weigh =
       let lost = λ (name : FlatName). not (is_there logged name.ino) in
       let parts = length_by_key (λ (name : FlatName). name.ino) (drawn_by steps) (lost_names committed logged) (λ name c.
-          let found = filter_contains lost committed.names name c in (are.gone name found.0 (not-true _ found.1)).0) in
+      let found = filter_contains lost committed.names name c in (are.gone name found.0 (not-true _ found.1)).0) in
       let each = sum_le (λ ino. length (filter (leads_to ino) (lost_names committed logged))) (λ ino. greatest (gone_weight committed ino) steps) (drawn_by steps) (λ ino c. lost_of ino) in
       omega (arith, parts, each)
     where

@@ -1,41 +1,39 @@
 -- Each log step keeps what the steps bound, and so do all steps since the last full commit.
-use Rattle.std.proofs.Common.{◌≡◌, ℕ, ◌+◌, ◌-◌, ◌*◌, ◌^◌, ◌<◌, ◌≤◌, max, Bool, true, false, cond, not, ◌&&◌, ◌||◌, List, [], ◌∷◌, ◌++◌, map, length, flat_map, Option, Some, None, refl, sym, ap, subst, ◌∙◌, arith, inl, inr, ◌⊎◌, length-append, MatchBool}
+use Rattle.std.proofs.Common.{◌≡◌, ℕ, ◌+◌, ◌-◌, ◌^◌, ◌≤◌, Bool, true, false, cond, not, ◌&&◌, List, [], ◌∷◌, ◌++◌, map, length, flat_map, Option, Some, None, refl, sym, ap, subst, ◌∙◌, arith, inl, inr, length-append, MatchBool}
 use Rattle.std.specs.Bool.{nat_eq}
 use Rattle.std.specs.Option.{is_some}
 use Rattle.std.specs.Ordering.{nat_cmp}
 use Rattle.std.specs.List.{Contains, filter}
-use Rattle.std.specs.FinMap.{get, empty, get-empty}
+use Rattle.std.specs.FinMap.{get, get-empty}
 use Rattle.std.proofs.lemmas.Bool.{true≢false, or_left, or_parts, and_parts, and_from, and_right, eqb-true, eq-eqb, ne_eqb, not-true, not_from_false, not_from_true, cases_eq, false_from_ne_true, true_from_ne_false}
-use Rattle.std.proofs.lemmas.List.Elements.{Contains-append_left, Contains-append_right, Contains-append_cases, filter-append, filter_agree}
+use Rattle.std.proofs.lemmas.List.Elements.{Contains-append_left, Contains-append_right, filter-append, filter_agree}
 use Rattle.flat_model.specs.Records.{InodeRecord}
 use Rattle.flat_model.specs.Names.{FlatName, is_name_set, leads_to, stands_in, links_of, entries_of}
 use Rattle.flat_model.specs.Coherent.{IsCoherent}
 use Rattle.flat_model.specs.Volume.{Subvolume, is_dir_at}
-use Rattle.flat_model.proofs.Lists.{contains_head, contains_tail, contains_none, contains_filter, filter_contains, filter_swaps, filter_empties}
-use Rattle.flat_model.proofs.Maps.{some_same, some_none}
+use Rattle.flat_model.proofs.Lists.{contains_filter, filter_contains, filter_swaps, filter_empties}
 use Rattle.flat_model.proofs.NameSets.{same_name_set, is_name_set_filter, set_tail, set_head_once}
-use Rattle.flat_model.proofs.Ways.{bytes_eq_same, same_bytes_eq}
-use Rattle.logged_volume.specs.Numbers.{is_in, number_set, gaps_with}
+use Rattle.logged_volume.specs.Numbers.{is_in, gaps_with}
 use Rattle.logged_volume.specs.Agreement.{is_there, is_same_unmarked, has_unmarked}
-use Rattle.logged_volume.specs.Drawn.{drawn_set, is_data_form, members_of}
+use Rattle.logged_volume.specs.Drawn.{drawn_set, is_data_form}
 use Rattle.logged_volume.specs.LogStep.{stepped, with_data, log_step}
 use Rattle.logged_volume.specs.Rules.{RoomNumbers, commit_reason}
-use Rattle.logged_volume.specs.FlatLog.{WholeInode, LogRange, LogEntry, FlatLog, empty_log, is_logged, is_covered, is_dropped, entry_of, AreDistinct}
-use Rattle.logged_volume.specs.Written.{unchanged_indexes, all_indexes, ranges_of, entries_in, is_gone, is_listed, listed_ranges, written_ranges, written_entries, IsFsyncWritten, IsDataWritten, IsWritten}
-use Rattle.logged_volume.specs.Standing.{IsLogOf, AreLogVolumes, AreLogStep}
-use Rattle.logged_volume.specs.Weight.{MadeStep, had_data_form, step_members, member_weight, record_weight, target_weight, listed_weight, gone_weight, greatest, drawn_by, weight_of, change_count, item_count, IsMade, IsIdle, AreMade}
-use Rattle.logged_volume.proofs.Members.{any_from, any_gives, in_from, in_gives, number_set_has, number_set_gives}
+use Rattle.logged_volume.specs.FlatLog.{WholeInode, LogRange, LogEntry, FlatLog, empty_log, is_logged, is_covered, entry_of, AreDistinct}
+use Rattle.logged_volume.specs.Written.{unchanged_indexes, all_indexes, ranges_of, entries_in, is_gone, is_listed, listed_ranges, written_entries, IsFsyncWritten, IsDataWritten, IsWritten}
+use Rattle.logged_volume.specs.Standing.{IsLogOf, AreLogStep}
+use Rattle.logged_volume.specs.Weight.{MadeStep, had_data_form, step_members, member_weight, record_weight, target_weight, listed_weight, gone_weight, greatest, drawn_by, weight_of, change_count, item_count, AreMade}
+use Rattle.logged_volume.proofs.Members.{any_gives, in_gives, number_set_has, number_set_gives}
 use Rattle.logged_volume.proofs.LeastSets.{least_set_closed}
-use Rattle.logged_volume.proofs.Stepped.{there_gives, there_from, other_inode, filter_of_members, filter_of_others}
+use Rattle.logged_volume.proofs.Stepped.{there_from, other_inode, filter_of_members, filter_of_others}
 use Rattle.logged_volume.proofs.StepCoherence.{StrandsNone, stepped_coherent}
 use Rattle.logged_volume.proofs.BothForms.{strands_none}
 use Rattle.logged_volume.proofs.Covers.{Covers, covered_from, dropped_gives}
-use Rattle.logged_volume.proofs.Gaps.{map_has, map_gives, gaps_with_lacks}
+use Rattle.logged_volume.proofs.Gaps.{map_gives}
 use Rattle.logged_volume.proofs.WrittenLogs.{logged_gone, logged_other, logged_member, present_is_there, ranged_is_lost, fsync_writes_log}
 use Rattle.logged_volume.proofs.DataLogs.{empty_is_log, data_names, data_there, logged_apart, data_writes_log}
-use Rattle.logged_volume.proofs.LogSteps.{step_writes_log, members_come}
+use Rattle.logged_volume.proofs.LogSteps.{step_writes_log}
 use Rattle.logged_volume.proofs.Counts.{length_within, distinct_filter, filters_apart, filter_le}
-use Rattle.logged_volume.proofs.WeightBounds.{lost_names, lost_in, ranges_at, entries_at, AreWeighed, short_filter, map_count, gaps_with_count, whole_count, items_weigh}
+use Rattle.logged_volume.proofs.WeightBounds.{lost_in, ranges_at, entries_at, AreWeighed, short_filter, map_count, gaps_with_count, whole_count, items_weigh}
 
 -- ---- lists
 
@@ -78,10 +76,10 @@ target_in_members step =
 log_links : (committed logged : Subvolume) (log : FlatLog) → IsLogOf committed logged log → is_name_set logged.names ≡ true → (ino : ℕ) → is_logged log ino ≡ true → links_of log.names ino ≡ links_of logged.names ino
 log_links committed logged log is set ino t =
     ap length (same_name_set _ _ (is_name_set_filter (leads_to ino) log.names is.in_order) (is_name_set_filter (leads_to ino) logged.names set)
-      (λ q c. let found = filter_contains (leads_to ino) log.names q c in contains_filter (leads_to ino) logged.names q found.1 (is.names_are q found.0).0)
-      (λ q c.
-          let found = filter_contains (leads_to ino) logged.names q c in
-          contains_filter (leads_to ino) log.names q found.1 (is.has_names q found.0 (ap (is_logged log) (eqb-true q.ino ino found.1) ∙ t))))
+    (λ q c. let found = filter_contains (leads_to ino) log.names q c in contains_filter (leads_to ino) logged.names q found.1 (is.names_are q found.0).0)
+    (λ q c.
+    let found = filter_contains (leads_to ino) logged.names q c in
+    contains_filter (leads_to ino) log.names q found.1 (is.has_names q found.0 (ap (is_logged log) (eqb-true q.ino ino found.1) ∙ t))))
 
 abbrev step_of : Subvolume → Subvolume → ℕ → Bool → MadeStep
 step_of current logged target datasync = record { current = current; logged = logged; target = target; datasync = datasync }
@@ -178,7 +176,7 @@ module _ (committed current logged : Subvolume) (target : ℕ) (datasync : Bool)
       let singles = map single (filter is_single committed.names) in
       let at = λ (range : LogRange). nat_eq range.dir dir in
       let most = length_within (filter at after.ranges) (filter at (listed ++ singles)) (distinct_filter at after.ranges written.ranges_once)
-        (λ range c. let found = filter_contains at after.ranges range c in contains_filter at (listed ++ singles) range found.1 ((written.ranges range).0 found.0)) in
+      (λ range c. let found = filter_contains at after.ranges range c in contains_filter at (listed ++ singles) range found.1 ((written.ranges range).0 found.0)) in
       omega (arith, most, ap length (filter-append at listed singles), length-append (filter at listed) (filter at singles), filter_of_map single at (filter is_single committed.names))
 
   entries_count : (dir : ℕ) → length (entries_at after dir) ≤ length (filter (λ entry. nat_eq entry.dir dir) (written_entries committed current target (drawn_set current logged target) log))
@@ -201,19 +199,19 @@ module _ (committed current logged : Subvolume) (target : ℕ) (datasync : Bool)
       let open_ = λ (name : FlatName). stands_in target name && not (is_covered ranges target name.index) in
       let alike = λ (name : FlatName). stands_in target name && has_unmarked current.names name in
       let unchanged = length_within (filter alike committed.names) (filter open_ current.names) (distinct_filter alike committed.names (name_set_distinct committed.names are.volumes.committed_coherent.in_order))
-        (λ name c.
-            let found = filter_contains alike committed.names name c in
-            let parts = and_parts _ _ found.1 in
-            let now : Contains current.names name = unchanged_is_current name found.0 parts.1 in
-            let not_covered : is_covered ranges target name.index ≡ false = false_from_ne_true _ (λ t.
-                let range = Rattle.logged_volume.proofs.Covers.covered_gives ranges target name.index t in
-                let in_target : name.dir ≡ target = eqb-true name.dir target parts.0 in
-                ranged_is_lost committed current logged target (drawn_set current logged target) log after are (least_set_closed current logged target true) strands written name range.0 range.1 (record { dir_is = range.2.dir_is ∙ sym in_target; from = range.2.from; to = range.2.to }) found.0 now) in
-            contains_filter open_ current.names name (and_from _ _ parts.0 (not_from_false _ not_covered)) now) in
+      (λ name c.
+      let found = filter_contains alike committed.names name c in
+      let parts = and_parts _ _ found.1 in
+      let now : Contains current.names name = unchanged_is_current name found.0 parts.1 in
+      let not_covered : is_covered ranges target name.index ≡ false = false_from_ne_true _ (λ t.
+      let range = Rattle.logged_volume.proofs.Covers.covered_gives ranges target name.index t in
+      let in_target : name.dir ≡ target = eqb-true name.dir target parts.0 in
+      ranged_is_lost committed current logged target (drawn_set current logged target) log after are (least_set_closed current logged target true) strands written name range.0 range.1 (record { dir_is = range.2.dir_is ∙ sym in_target; from = range.2.from; to = range.2.to }) found.0 now) in
+      contains_filter open_ current.names name (and_from _ _ parts.0 (not_from_false _ not_covered)) now) in
       let gaps = map_count (λ (gap : ℕ × ℕ). let made : LogRange = record { dir = target; first = gap.0; last = gap.1 - 1 } in made) (gaps_with (unchanged_indexes committed current target) (all_indexes committed current target) (2 ^ 64)) in
       let split : length (filter covered current.names) + length (filter open_ current.names) ≤ length (entries_of current.names target) =
       filters_apart covered open_ (stands_in target) current.names (λ name c t. (and_parts _ _ t).0) (λ name c t. (and_parts _ _ t).0)
-        (λ name c t u. true≢false (sym (and_parts _ _ t).1 ∙ not-true _ (and_parts _ _ u).1)) in
+      (λ name c t u. true≢false (sym (and_parts _ _ t).1 ∙ not-true _ (and_parts _ _ u).1)) in
       omega (arith, gaps, gaps_with_count (unchanged_indexes committed current target) (all_indexes committed current target) (2 ^ 64), map_count (λ (name : FlatName). name.index) (filter alike committed.names), unchanged, map_count entry_of (filter covered current.names), split)
     where
       unchanged_is_current : (name : FlatName) → Contains committed.names name → has_unmarked current.names name ≡ true → Contains current.names name
@@ -234,11 +232,11 @@ module _ (committed current logged : Subvolume) (target : ℕ) (datasync : Bool)
       let kept_entries = filter (λ (entry : LogEntry). not (is_gone current members entry.dir) && (not (is_gone current members entry.ino) && not (is_listed current target entry.dir))) log.entries in
       let is_listed_at = λ (d : ℕ) (e : d ≡ dir). and_from (nat_eq d target) (is_dir_at current target) (eq-eqb d target (e ∙ same)) is_dir in
       let no_range : length (filter at kept) ≡ 0 = none_pass at kept (λ range c t.
-          let found = filter_contains (λ (range : LogRange). not (is_gone current members range.dir) && not (is_listed current target range.dir)) log.ranges range c in
-          true≢false (sym (is_listed_at range.dir (eqb-true range.dir dir t)) ∙ not-true _ (and_parts _ _ found.1).1)) in
+      let found = filter_contains (λ (range : LogRange). not (is_gone current members range.dir) && not (is_listed current target range.dir)) log.ranges range c in
+      true≢false (sym (is_listed_at range.dir (eqb-true range.dir dir t)) ∙ not-true _ (and_parts _ _ found.1).1)) in
       let no_entry : length (filter entry_at kept_entries) ≡ 0 = none_pass entry_at kept_entries (λ entry c t.
-          let found = filter_contains (λ (entry : LogEntry). not (is_gone current members entry.dir) && (not (is_gone current members entry.ino) && not (is_listed current target entry.dir))) log.entries entry c in
-          true≢false (sym (is_listed_at entry.dir (eqb-true entry.dir dir t)) ∙ not-true _ (and_parts _ _ (and_parts _ _ found.1).1).1)) in
+      let found = filter_contains (λ (entry : LogEntry). not (is_gone current members entry.dir) && (not (is_gone current members entry.ino) && not (is_listed current target entry.dir))) log.entries entry c in
+      true≢false (sym (is_listed_at entry.dir (eqb-true entry.dir dir t)) ∙ not-true _ (and_parts _ _ (and_parts _ _ found.1).1).1)) in
       let new = cond (is_dir_at current target) (ranges_of committed current target) [] in
       let new_entries = cond (is_dir_at current target) (entries_in current target (ranges_of committed current target)) [] in
       let new_is : new ≡ ranges_of committed current target = ap (λ b. cond b (ranges_of committed current target) []) is_dir in
@@ -246,9 +244,24 @@ module _ (committed current logged : Subvolume) (target : ℕ) (datasync : Bool)
       let weight : listed_weight dir step ≡ 1 + length (entries_of current.names target) =
       ap (λ b. cond b (1 + length (entries_of current.names dir)) 0) (and_from (nat_eq dir target) _ (eq-eqb dir target same) (and_from _ _ (ap (is_dir_at current) same ∙ is_dir) (not_from_false _ form))) ∙ ap (λ d. 1 + length (entries_of current.names d)) same in
       let bound = new_weight (listed_weight dir) step steps (1 + length (entries_of current.names target)) (omega (arith, weight)) in
-      omega (arith, bound, ranges_count dir, entries_count dir, singles_are_lost dir, target_listed is_dir, no_range, no_entry,
-        ap length (filter-append at kept new), length-append (filter at kept) (filter at new), short_filter at new, ap length new_is,
-        ap length (filter-append entry_at kept_entries new_entries), length-append (filter entry_at kept_entries) (filter entry_at new_entries), short_filter entry_at new_entries, ap length new_entries_is)
+      omega (
+        arith,
+        bound,
+        ranges_count dir,
+        entries_count dir,
+        singles_are_lost dir,
+        target_listed is_dir,
+        no_range,
+        no_entry,
+        ap length (filter-append at kept new),
+        length-append (filter at kept) (filter at new),
+        short_filter at new,
+        ap length new_is,
+        ap length (filter-append entry_at kept_entries new_entries),
+        length-append (filter entry_at kept_entries) (filter entry_at new_entries),
+        short_filter entry_at new_entries,
+        ap length new_entries_is,
+      )
 
   -- of another directory nothing new is listed
   no_new_range : (dir : ℕ) → is_listed current target dir ≡ false → length (filter (λ range. nat_eq range.dir dir) (cond (is_dir_at current target) (ranges_of committed current target) [])) ≡ 0
@@ -276,14 +289,14 @@ module _ (committed current logged : Subvolume) (target : ℕ) (datasync : Bool)
   kept_ranges_count : (dir : ℕ) → is_gone current (drawn_set current logged target) dir ≡ true → length (filter (λ range. nat_eq range.dir dir) (filter (λ (range : LogRange). not (is_gone current (drawn_set current logged target) range.dir) && not (is_listed current target range.dir)) log.ranges)) ≡ 0
   kept_ranges_count dir gone =
       none_pass (λ (range : LogRange). nat_eq range.dir dir) (filter (λ (range : LogRange). not (is_gone current (drawn_set current logged target) range.dir) && not (is_listed current target range.dir)) log.ranges) (λ range c t.
-          let found = filter_contains (λ (range : LogRange). not (is_gone current (drawn_set current logged target) range.dir) && not (is_listed current target range.dir)) log.ranges range c in
-          true≢false (sym gone ∙ ap (is_gone current (drawn_set current logged target)) (sym (eqb-true range.dir dir t)) ∙ not-true _ (and_parts _ _ found.1).0))
+      let found = filter_contains (λ (range : LogRange). not (is_gone current (drawn_set current logged target) range.dir) && not (is_listed current target range.dir)) log.ranges range c in
+      true≢false (sym gone ∙ ap (is_gone current (drawn_set current logged target)) (sym (eqb-true range.dir dir t)) ∙ not-true _ (and_parts _ _ found.1).0))
 
   kept_entries_count : (dir : ℕ) → is_gone current (drawn_set current logged target) dir ≡ true → length (filter (λ entry. nat_eq entry.dir dir) (filter (λ (entry : LogEntry). not (is_gone current (drawn_set current logged target) entry.dir) && (not (is_gone current (drawn_set current logged target) entry.ino) && not (is_listed current target entry.dir))) log.entries)) ≡ 0
   kept_entries_count dir gone =
       none_pass (λ (entry : LogEntry). nat_eq entry.dir dir) (filter (λ (entry : LogEntry). not (is_gone current (drawn_set current logged target) entry.dir) && (not (is_gone current (drawn_set current logged target) entry.ino) && not (is_listed current target entry.dir))) log.entries) (λ entry c t.
-          let found = filter_contains (λ (entry : LogEntry). not (is_gone current (drawn_set current logged target) entry.dir) && (not (is_gone current (drawn_set current logged target) entry.ino) && not (is_listed current target entry.dir))) log.entries entry c in
-          true≢false (sym gone ∙ ap (is_gone current (drawn_set current logged target)) (sym (eqb-true entry.dir dir t)) ∙ not-true _ (and_parts _ _ found.1).0))
+      let found = filter_contains (λ (entry : LogEntry). not (is_gone current (drawn_set current logged target) entry.dir) && (not (is_gone current (drawn_set current logged target) entry.ino) && not (is_listed current target entry.dir))) log.entries entry c in
+      true≢false (sym gone ∙ ap (is_gone current (drawn_set current logged target)) (sym (eqb-true entry.dir dir t)) ∙ not-true _ (and_parts _ _ found.1).0))
 
   -- of a directory whose ranges stay, names that were lost before have a range already
   lost_and_single : (dir : ℕ) → is_gone current (drawn_set current logged target) dir ≡ false → is_listed current target dir ≡ false → lost_in committed logged dir + singles_at dir ≤ lost_in committed (stepped current logged target (drawn_set current logged target)) dir
@@ -295,19 +308,19 @@ module _ (committed current logged : Subvolume) (target : ℕ) (datasync : Bool)
       let kept = λ (range : LogRange). not (is_gone current members range.dir) && not (is_listed current target range.dir) in
       let split : length (filter lost (filter (stands_in dir) committed.names)) + length (filter is_single (filter (stands_in dir) committed.names)) ≤ length (filter lost_after (filter (stands_in dir) committed.names)) =
       filters_apart lost is_single lost_after (filter (stands_in dir) committed.names)
-        (λ name c t.
-            let name_is = filter_contains (stands_in dir) committed.names name c in
-            not_from_false _ (false_from_ne_true _ (λ here. still_lost name name_is.0 (not-true _ t) here)))
-        (λ name c t. (and_parts _ _ t).0)
-        (λ name c t u.
-            let name_is = filter_contains (stands_in dir) committed.names name c in
-            let in_dir_is : name.dir ≡ dir = eqb-true name.dir dir name_is.1 in
-            let range = (dropped_gives log name (are.is_log.drops_gone name name_is.0 (not-true _ t))).0 in
-            let range_dir : range.0.dir ≡ dir = range.2.dir_is ∙ in_dir_is in
-            let here : Contains (listed_ranges committed current target members log) range.0 =
-            Contains-append_left (filter kept log.ranges) (cond (is_dir_at current target) (ranges_of committed current target) []) range.0
-            (contains_filter kept log.ranges range.0 (and_from _ _ (not_from_false _ (ap (is_gone current members) range_dir ∙ stays)) (not_from_false _ (ap (is_listed current target) range_dir ∙ unlisted))) range.1) in
-            true≢false (sym (covered_from (listed_ranges committed current target members log) name.dir name.index range.0 here range.2) ∙ not-true _ (and_parts _ _ u).1)) in
+      (λ name c t.
+      let name_is = filter_contains (stands_in dir) committed.names name c in
+      not_from_false _ (false_from_ne_true _ (λ here. still_lost name name_is.0 (not-true _ t) here)))
+      (λ name c t. (and_parts _ _ t).0)
+      (λ name c t u.
+      let name_is = filter_contains (stands_in dir) committed.names name c in
+      let in_dir_is : name.dir ≡ dir = eqb-true name.dir dir name_is.1 in
+      let range = (dropped_gives log name (are.is_log.drops_gone name name_is.0 (not-true _ t))).0 in
+      let range_dir : range.0.dir ≡ dir = range.2.dir_is ∙ in_dir_is in
+      let here : Contains (listed_ranges committed current target members log) range.0 =
+      Contains-append_left (filter kept log.ranges) (cond (is_dir_at current target) (ranges_of committed current target) []) range.0
+      (contains_filter kept log.ranges range.0 (and_from _ _ (not_from_false _ (ap (is_gone current members) range_dir ∙ stays)) (not_from_false _ (ap (is_listed current target) range_dir ∙ unlisted))) range.1) in
+      true≢false (sym (covered_from (listed_ranges committed current target members log) name.dir name.index range.0 here range.2) ∙ not-true _ (and_parts _ _ u).1)) in
       omega (arith, split, ap length (filter_swaps (stands_in dir) lost committed.names), ap length (filter_swaps (stands_in dir) is_single committed.names), ap length (filter_swaps (stands_in dir) lost_after committed.names))
     where
       still_lost : (name : FlatName) → Contains committed.names name → is_there logged name.ino ≡ false → is_there (stepped current logged target (drawn_set current logged target)) name.ino ≡ true → ⊥
@@ -339,8 +352,22 @@ module _ (committed current logged : Subvolume) (target : ℕ) (datasync : Bool)
             let old = old_weight (listed_weight dir) step steps (greatest (listed_weight dir) steps) (omega arith) in
             let fewer = ap length (filter_swaps at keeps log.ranges) in
             let fewer_entries = ap length (filter_swaps entry_at keeps_entry log.entries) in
-            omega (arith, ranges_count dir, entries_count dir, ranges_split, entries_split, no_new_range dir unlisted, no_new_entry dir unlisted, lost_and_single dir stays unlisted, weighed.listed dir, old,
-              fewer, short_filter keeps (filter at log.ranges), fewer_entries, short_filter keeps_entry (filter entry_at log.entries))
+            omega (
+              arith,
+              ranges_count dir,
+              entries_count dir,
+              ranges_split,
+              entries_split,
+              no_new_range dir unlisted,
+              no_new_entry dir unlisted,
+              lost_and_single dir stays unlisted,
+              weighed.listed dir,
+              old,
+              fewer,
+              short_filter keeps (filter at log.ranges),
+              fewer_entries,
+              short_filter keeps_entry (filter entry_at log.entries),
+            )
       ] refl
 
   fsync_listed : (dir : ℕ) → length (ranges_at after dir) + length (entries_at after dir) ≤ greatest (listed_weight dir) (step_of current logged target datasync ∷ steps) + lost_in committed (stepped current logged target (drawn_set current logged target)) dir
@@ -423,9 +450,9 @@ module _ (committed current logged : Subvolume) (target : ℕ) (datasync : Bool)
       let at = λ (range : LogRange). nat_eq range.dir dir in
       let entry_at = λ (entry : LogEntry). nat_eq entry.dir dir in
       let ranges = length_within (filter at after.ranges) (filter at log.ranges) (distinct_filter at after.ranges written.ranges_once)
-        (λ range c. let found = filter_contains at after.ranges range c in contains_filter at log.ranges range found.1 ((written.ranges range).0 found.0)) in
+      (λ range c. let found = filter_contains at after.ranges range c in contains_filter at log.ranges range found.1 ((written.ranges range).0 found.0)) in
       let entries = length_within (filter entry_at after.entries) (filter entry_at log.entries) (distinct_filter entry_at after.entries written.entries_once)
-        (λ entry c. let found = filter_contains entry_at after.entries entry c in contains_filter entry_at log.entries entry found.1 ((written.entries entry).0 found.0)) in
+      (λ entry c. let found = filter_contains entry_at after.entries entry c in contains_filter entry_at log.entries entry found.1 ((written.entries entry).0 found.0)) in
       let old = old_weight (listed_weight dir) (step_of current logged target datasync) steps (greatest (listed_weight dir) steps) (omega arith) in
       omega (arith, ranges, entries, weighed.listed dir, lost_same dir, old)
 
@@ -467,8 +494,8 @@ step_weighs committed step steps log after room are weighed none written =
     let logged = step.logged in
     let target = step.target in
     elim (is_data_form logged target step.datasync) as (λ b. is_data_form logged target step.datasync ≡ b →
-      MatchBool b (IsDataWritten committed current target log after) (IsFsyncWritten committed current logged target (drawn_set current logged target) (cond b (with_data current logged target) (stepped current logged target (drawn_set current logged target))) log after)
-      → AreWeighed committed (step ∷ steps) (cond b (with_data current logged target) (stepped current logged target (drawn_set current logged target))) after) [
+    MatchBool b (IsDataWritten committed current target log after) (IsFsyncWritten committed current logged target (drawn_set current logged target) (cond b (with_data current logged target) (stepped current logged target (drawn_set current logged target))) log after)
+    → AreWeighed committed (step ∷ steps) (cond b (with_data current logged target) (stepped current logged target (drawn_set current logged target))) after) [
       | true ↦ λ t w. data_weighs committed current logged target step.datasync steps log after are weighed t w
       | false ↦ λ f w. fsync_weighs committed current logged target step.datasync steps log after are weighed f (strands_none current logged target step.datasync room are.volumes.step none f) w
     ] refl written
@@ -489,28 +516,31 @@ one_more committed step steps logged log weighed = record {
 pub made_holds : (committed : Subvolume) (steps : List MadeStep) (logged : Subvolume) (log : FlatLog) → AreMade committed steps logged log → IsLogOf committed logged log × AreWeighed committed steps logged log
 made_holds committed [] logged log made =
     let log_is = empty_is_log committed made.0 in
-    let weighs = empty_weighs committed made.0 in
-    (subst (λ l. IsLogOf committed l log) (sym made.1) (subst (IsLogOf committed committed) (sym made.2) log_is),
-      subst (λ l. AreWeighed committed [] l log) (sym made.1) (subst (AreWeighed committed [] committed) (sym made.2) weighs))
+    let weighs = empty_weighs committed made.0 in (
+      subst (λ l. IsLogOf committed l log) (sym made.1) (subst (IsLogOf committed committed) (sym made.2) log_is),
+      subst (λ l. AreWeighed committed [] l log) (sym made.1) (subst (AreWeighed committed [] committed) (sym made.2) weighs),
+    )
 made_holds committed (step ∷ steps) logged log made =
     let before = made.0 in
     let old = made_holds committed steps step.logged before made.1 in
     let are : AreLogStep committed step.current step.logged step.target before = record { volumes = made.2; is_log = old.0 } in
     elim made.3 [
-      | inl now ↦
-          (subst (λ l. IsLogOf committed l log) (sym now.leaves) (step_writes_log committed step.current step.logged step.target step.datasync now.room before log are now.no_reason now.written),
-            subst (λ l. AreWeighed committed (step ∷ steps) l log) (sym now.leaves) (step_weighs committed step steps before log now.room are old.1 now.no_reason now.written))
-      | inr idle ↦
-          (subst (λ l. IsLogOf committed l log) (sym idle.logged_stays) (subst (IsLogOf committed step.logged) (sym idle.log_stays) old.0),
-            subst (λ l. AreWeighed committed (step ∷ steps) l log) (sym idle.logged_stays) (subst (AreWeighed committed (step ∷ steps) step.logged) (sym idle.log_stays) (one_more committed step steps step.logged before old.1)))
+      | inl now ↦ (
+        subst (λ l. IsLogOf committed l log) (sym now.leaves) (step_writes_log committed step.current step.logged step.target step.datasync now.room before log are now.no_reason now.written),
+        subst (λ l. AreWeighed committed (step ∷ steps) l log) (sym now.leaves) (step_weighs committed step steps before log now.room are old.1 now.no_reason now.written),
+      )
+      | inr idle ↦ (
+        subst (λ l. IsLogOf committed l log) (sym idle.logged_stays) (subst (IsLogOf committed step.logged) (sym idle.log_stays) old.0),
+        subst (λ l. AreWeighed committed (step ∷ steps) l log) (sym idle.logged_stays) (subst (AreWeighed committed (step ∷ steps) step.logged) (sym idle.log_stays) (one_more committed step steps step.logged before old.1)),
+      )
     ]
 
 pub made_coherent : (committed : Subvolume) (steps : List MadeStep) (logged : Subvolume) (log : FlatLog) → AreMade committed steps logged log → IsCoherent logged
 made_coherent committed [] logged log made = subst IsCoherent (sym made.1) made.0
 made_coherent committed (step ∷ steps) logged log made = elim made.3 [
-    | inl now ↦ subst IsCoherent (sym now.leaves) (Rattle.logged_volume.proofs.BothForms.step_coherent step.current step.logged step.target step.datasync now.room made.2.step now.no_reason).coherent
-    | inr idle ↦ subst IsCoherent (sym idle.logged_stays) made.2.step.logged_coherent
-  ]
+  | inl now ↦ subst IsCoherent (sym now.leaves) (Rattle.logged_volume.proofs.BothForms.step_coherent step.current step.logged step.target step.datasync now.room made.2.step now.no_reason).coherent
+  | inr idle ↦ subst IsCoherent (sym idle.logged_stays) made.2.step.logged_coherent
+]
 
 pub made_weight : (committed : Subvolume) (steps : List MadeStep) (logged : Subvolume) (log : FlatLog) → AreMade committed steps logged log → item_count log ≤ weight_of committed steps
 made_weight committed steps logged log made =

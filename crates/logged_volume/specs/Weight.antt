@@ -2,7 +2,7 @@
 use Rattle.std.specs.Prelude.{◌≡◌, ℕ, ◌+◌, ◌*◌, max, Bool, cond, not, ◌&&◌, List, [], ◌∷◌, ◌++◌, length, Option, Some, None, ◌⊎◌, flat_map, sum_by, nat_eq}
 use Rattle.std.specs.FinMap.{get, keys, len}
 use Rattle.flat_model.specs.Records.{InodeRecord, FileInode, DirInode, LinkInode, attributes_of}
-use Rattle.flat_model.specs.Names.{FlatName, links_of, entries_of}
+use Rattle.flat_model.specs.Names.{links_of, entries_of}
 use Rattle.flat_model.specs.Coherent.{IsCoherent}
 use Rattle.flat_model.specs.Volume.{Subvolume, is_dir_at}
 use Rattle.logged_volume.specs.Numbers.{is_in, number_set}
