@@ -1,0 +1,11 @@
+pub mod Numbers
+pub mod Agreement
+pub mod Drawn
+pub mod Rules
+pub mod LogStep
+pub mod FlatLog
+pub mod Replay
+pub mod Accepted
+pub mod Written
+pub mod Standing
+pub mod Weight
