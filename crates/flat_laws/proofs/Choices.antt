@@ -9,7 +9,7 @@ use Rattle.flat_model.specs.declared.answer.Answer.{Answer}
 use Rattle.flat_model.specs.declared.answer.Answer.TheVariants.{Plain, NoEnt, NotDir, IsDir, Exists, NotEmpty, Loop, Links, TooLarge, Collide}
 use Rattle.flat_model.specs.Records.{InodeRecord}
 use Rattle.flat_model.specs.Names.{FlatName, is_name_set, links_of}
-use Rattle.flat_model.specs.Volume.{SubMarks, RunSub, is_dir_there, is_other_there}
+use Rattle.flat_model.specs.Volume.{RunNumbers, RunSub, is_dir_there, is_other_there}
 use Rattle.flat_model.specs.Coherent.{most_links}
 use Rattle.flat_model.specs.Walk.{WalkEnd, AtSlot, walk, ino_at, record_at, dir_of, is_absent, is_dirless, is_blocked, is_root, is_taken, is_one_inode, is_below}
 use Rattle.flat_model.specs.Operations.{Outcome, first_answer, unchanged, unless_refused, inos_are_spent, indexes_are_spent, has_entries, new_name, names_without, without_entry, do_collide, make, make_rows, make_done, link, link_rows, link_done, rename, rename_rows, rename_done, exchange, exchange_rows, exchange_done}
@@ -23,14 +23,14 @@ use Rattle.flat_model.proofs.Choices.{next_index_first, next_index_second}
 use Rattle.flat_laws.proofs.Crowds.{names_without_part, names_without_set, IsFreeIn, slot_freed, collide_one, collide_two}
 
 -- the two indexes above all that a subvolume has had
-abbrev pub next_two : SubMarks → List ℕ
-next_two marks = (marks.last_index + 1) ∷ (marks.last_index + 2) ∷ []
+abbrev pub next_two : RunNumbers → List ℕ
+next_two numbers = (numbers.last_index + 1) ∷ (numbers.last_index + 2) ∷ []
 
 -- an operation, by the indexes that its new names get, leaves nothing else open
 pub record LeavesIndexes (run : RunSub) (operate : List ℕ → Outcome) : Type 0 where
   pub one_answer : (one two : List ℕ) → (operate one).answer ≡ (operate two).answer
   pub shown : (indexes : List ℕ) → operate (indexes_of (operate indexes).made) ≡ operate indexes
-  pub left : AreNextIndexes run.marks (operate (next_two run.marks)).made
+  pub left : AreNextIndexes run.numbers (operate (next_two run.numbers)).made
 
 -- ---- rows
 
@@ -42,7 +42,7 @@ module _ (run : RunSub) (rows : List ℕ → List (Bool × Answer)) (done : List
     (same : (one two : List ℕ) → first_answer (rows one) ≡ first_answer (rows two))
     (answers : (one two : List ℕ) → (done one).answer ≡ (done two).answer)
     (shows : (indexes : List ℕ) → done (indexes_of (done indexes).made) ≡ done indexes)
-    (next : NoneHolds (rows (next_two run.marks)) → AreNextIndexes run.marks (done (next_two run.marks)).made) where
+    (next : NoneHolds (rows (next_two run.numbers)) → AreNextIndexes run.numbers (done (next_two run.numbers)).made) where
   -- the operation, by its rows and what it does where none holds
   abbrev at : List ℕ → Outcome
   at indexes = unless_refused run (rows indexes) (done indexes)
@@ -67,7 +67,7 @@ module _ (run : RunSub) (rows : List ℕ → List (Bool × Answer)) (done : List
   rows_leave = record {
     one_answer = rows_answer;
     shown = rows_shown;
-    left = outcome_cases (λ (o : Outcome). AreNextIndexes run.marks o.made) run (rows (next_two run.marks)) (done (next_two run.marks)) (λ answer. tt) next;
+    left = outcome_cases (λ (o : Outcome). AreNextIndexes run.numbers o.made) run (rows (next_two run.numbers)) (done (next_two run.numbers)) (λ answer. tt) next;
   }
 
 -- rows and one more
@@ -89,7 +89,7 @@ pub quiet_leaves : (run : RunSub) (outcome : Outcome) → outcome.made ≡ [] �
 quiet_leaves run outcome none = record {
   one_answer = λ one two. refl;
   shown = λ indexes. refl;
-  left = subst (AreNextIndexes run.marks) (sym none) tt;
+  left = subst (AreNextIndexes run.numbers) (sym none) tt;
 }
 
 -- ---- operations that make names
@@ -99,13 +99,13 @@ module _ (run : RunSub) (sound : IsSound run) where
   unfolding make
   make_leaves path inode =
       let place : WalkEnd = walk run.sub path in
-      let name_at : WalkEnd → List ℕ → FlatName = λ w indexes. new_name run.sub.names w (slice_index indexes 0) (run.marks.last_ino + 1) in
+      let name_at : WalkEnd → List ℕ → FlatName = λ w indexes. new_name run.sub.names w (slice_index indexes 0) (run.numbers.last_ino + 1) in
       let collides : WalkEnd → List ℕ → Bool = λ w indexes. do_collide run.sub.names (name_at w indexes ∷ []) in
       rows_leave run (λ indexes. make_rows run place (name_at place indexes)) (λ indexes. make_done run inode (name_at place indexes))
-      (λ one two. same_last ((is_dirless place, NoEnt) ∷ (is_blocked place, NotDir) ∷ (is_taken place, Exists) ∷ (inos_are_spent run.marks || indexes_are_spent run.marks, TooLarge) ∷ []) (collides place one) (collides place two) Collide (λ none.
+      (λ one two. same_last ((is_dirless place, NoEnt) ∷ (is_blocked place, NotDir) ∷ (is_taken place, Exists) ∷ (inos_are_spent run.numbers || indexes_are_spent run.numbers, TooLarge) ∷ []) (collides place one) (collides place two) Collide (λ none.
       let slot = free_slot place none.0 none.1.0 none.1.1.0 in
       let free = slot_is_free run.sub path slot.0 slot.1 (walk_slot run.sub path slot.0 slot.1 None slot.2) in
-      subst (λ w. collides w one ≡ collides w two) (sym slot.2) (collide_one run.sub.names slot.0 slot.1 None (run.marks.last_ino + 1) (slice_index one 0) (slice_index two 0) sound.coherent.in_order free)))
+      subst (λ w. collides w one ≡ collides w two) (sym slot.2) (collide_one run.sub.names slot.0 slot.1 None (run.numbers.last_ino + 1) (slice_index one 0) (slice_index two 0) sound.coherent.in_order free)))
       (λ one two. refl)
       (λ indexes. refl)
       (λ none. (next_index_first run sound (dir_of place), tt))
@@ -119,7 +119,7 @@ module _ (run : RunSub) (sound : IsSound run) where
       let name_at : WalkEnd → List ℕ → FlatName = λ w indexes. new_name run.sub.names w (slice_index indexes 0) ino in
       let collides : WalkEnd → List ℕ → Bool = λ w indexes. do_collide run.sub.names (name_at w indexes ∷ []) in
       rows_leave run (λ indexes. link_rows run from to (name_at to indexes)) (λ indexes. link_done run (name_at to indexes))
-      (λ one two. same_last ((is_absent from || is_dirless to, NoEnt) ∷ (is_blocked from || is_blocked to, NotDir) ∷ (is_dir_there (record_at run.sub from), IsDir) ∷ (is_taken to, Exists) ∷ (nat_le most_links (links_of run.sub.names ino), Links) ∷ (indexes_are_spent run.marks, TooLarge) ∷ []) (collides to one) (collides to two) Collide (λ none.
+      (λ one two. same_last ((is_absent from || is_dirless to, NoEnt) ∷ (is_blocked from || is_blocked to, NotDir) ∷ (is_dir_there (record_at run.sub from), IsDir) ∷ (is_taken to, Exists) ∷ (nat_le most_links (links_of run.sub.names ino), Links) ∷ (indexes_are_spent run.numbers, TooLarge) ∷ []) (collides to one) (collides to two) Collide (λ none.
       let slot = free_slot to (or_parts _ _ none.0).1 (or_parts _ _ none.1.0).1 none.1.1.1.0 in
       let free = slot_is_free run.sub new slot.0 slot.1 (walk_slot run.sub new slot.0 slot.1 None slot.2) in
       subst (λ w. collides w one ≡ collides w two) (sym slot.2) (collide_one run.sub.names slot.0 slot.1 None ino (slice_index one 0) (slice_index two 0) sound.coherent.in_order free)))
@@ -154,7 +154,7 @@ module _ (run : RunSub) (sound : IsSound run) where
       rows_leave run (λ indexes. rename_rows run old new from to (left_at to) (name_at to indexes)) (λ indexes. rename_done run (without_entry run.sub to) (left_at to) (name_at to indexes))
       (λ one two. same_last ((is_absent from || is_dirless to, NoEnt) ∷ (is_blocked from || is_blocked to, NotDir) ∷ (is_one_inode from to, Plain) ∷ (is_dir_there moved && is_other_there target, NotDir)
       ∷ (not (is_root to) && (is_other_there moved && is_dir_there target), IsDir) ∷ (not (is_root to) && (is_dir_there target && has_entries run.sub (ino_at to)), NotEmpty)
-      ∷ (is_root from || (is_root to || (is_dir_there moved && is_below old new)), Loop) ∷ (indexes_are_spent run.marks, TooLarge) ∷ []) (collides to one) (collides to two) Collide (λ none.
+      ∷ (is_root from || (is_root to || (is_dir_there moved && is_below old new)), Loop) ∷ (indexes_are_spent run.numbers, TooLarge) ∷ []) (collides to one) (collides to two) Collide (λ none.
       let loops = or_parts _ _ none.1.1.1.1.1.1.0 in
       let slot = some_slot to (or_parts _ _ none.0).1 (or_parts _ _ none.1.0).1 (or_parts _ _ loops.1).0 in
       let free = stays_free new from slot.0 slot.1 slot.2 slot.3 in
@@ -173,7 +173,7 @@ module _ (run : RunSub) (sound : IsSound run) where
       let collides : WalkEnd → WalkEnd → List ℕ → Bool = λ v w indexes. do_collide (left_at v w) (made_at v w indexes) in
       rows_leave run (λ indexes. exchange_rows run one two first second (left_at first second) (made_at first second indexes)) (λ indexes. exchange_done run (left_at first second) (made_at first second indexes))
       (λ here there. same_last ((is_absent first || is_absent second, NoEnt) ∷ (is_blocked first || is_blocked second, NotDir) ∷ (is_one_inode first second, Plain)
-      ∷ (is_root first || (is_root second || (is_below one two || is_below two one)), Loop) ∷ (indexes_are_spent run.marks, TooLarge) ∷ []) (collides first second here) (collides first second there) Collide (λ none.
+      ∷ (is_root first || (is_root second || (is_below one two || is_below two one)), Loop) ∷ (indexes_are_spent run.numbers, TooLarge) ∷ []) (collides first second here) (collides first second there) Collide (λ none.
       let absent = or_parts _ _ none.0 in
       let blocked = or_parts _ _ none.1.0 in
       let loops = or_parts _ _ none.1.1.1.0 in
@@ -197,5 +197,5 @@ module _ (run : RunSub) (sound : IsSound run) where
       (λ indexes. refl)
       (λ none. (
         next_index_first run sound (dir_of first),
-        (next_index_second run sound (new_name (left_at first second) first (run.marks.last_index + 1) (unwrap_or (ino_at second) 0)) (dir_of second) refl, tt),
+        (next_index_second run sound (new_name (left_at first second) first (run.numbers.last_index + 1) (unwrap_or (ino_at second) 0)) (dir_of second) refl, tt),
       ))

@@ -48,7 +48,7 @@ make_refused : (run : RunSub) (path : List (List ℕ)) (inode : InodeRecord) (in
 unfolding make
 make_refused run path inode index =
     let place : WalkEnd = walk run.sub path in
-    refused_rows run (make_rows run place (new_name run.sub.names place index (run.marks.last_ino + 1))) _ refl
+    refused_rows run (make_rows run place (new_name run.sub.names place index (run.numbers.last_ino + 1))) _ refl
 
 link_refused : (run : RunSub) (old new : List (List ℕ)) (index : ℕ) → KeepsRefused run (link run old new index)
 unfolding link

@@ -5,7 +5,7 @@
 
 ghost use Rattle.std.specs.Prelude.{◌≡◌, ℕ, List, [], true};
 ghost use Rattle.flat_model.specs.Volume.{RunVolume};
-ghost use Rattle.flat_model.specs.Step.{AreNextIndexes, IsChoice, IsInLimits, IsSpelled, indexes_of, marks_in, place_of, step};
+ghost use Rattle.flat_model.specs.Step.{AreNextIndexes, IsChoice, IsInLimits, IsSpelled, indexes_of, numbers_in, place_of, step};
 ghost use Rattle.flat_model.specs.Running.{IsSoundVolume};
 ghost use Rattle.flat_model.specs.declared.op.Op.{Op};
 ghost use Rattle.flat_laws.specs.Refusal.{is_refusal};
@@ -23,7 +23,7 @@ pub fn answers_have_no_choice()
 /// Law: where the names that an operation made have indexes that may be theirs, these indexes are a choice, and with
 /// them the operation comes to the same (own).
 pub fn choices_are_shown()
-    ensures { (run : RunVolume) (op : Op) (indexes : List ℕ) → IsSoundVolume run → IsSpelled op → IsInLimits op → AreNextIndexes (marks_in run (place_of op).sub.0) (step run op indexes).made → IsChoice run op (indexes_of (step run op indexes).made) × (step run op (indexes_of (step run op indexes).made) ≡ step run op indexes) }
+    ensures { (run : RunVolume) (op : Op) (indexes : List ℕ) → IsSoundVolume run → IsSpelled op → IsInLimits op → AreNextIndexes (numbers_in run (place_of op).sub.0) (step run op indexes).made → IsChoice run op (indexes_of (step run op indexes).made) × (step run op (indexes_of (step run op indexes).made) ≡ step run op indexes) }
 {}
 
 /// Law: on a sound volume, every operation in its limits has a choice of indexes left (own).

@@ -10,7 +10,7 @@ use Rattle.flat_model.specs.declared.answer.Answer.{Answer}
 use Rattle.flat_model.specs.Records.{InodeRecord}
 use Rattle.flat_model.specs.Names.{FlatName, is_name_set, add_name}
 use Rattle.flat_model.specs.Lengths.{most_item_bytes, ref_length, extref_length, entry_length, ref_item_length, extref_item_length, dir_item_length}
-use Rattle.flat_model.specs.Volume.{Subvolume, SubMarks, RunSub, last_index_in, note_name}
+use Rattle.flat_model.specs.Volume.{Subvolume, RunNumbers, RunSub, last_index_in, note_name}
 use Rattle.flat_model.specs.Coherent.{IsIndexNumber}
 use Rattle.flat_model.specs.Step.{IsNextIndex}
 use Rattle.flat_model.specs.Operations.{Outcome, first_answer, unchanged, unless_refused, is_crowded, has_room_near}
@@ -46,42 +46,42 @@ outcome_cases P run rows done refused operated =
 
 -- ---- numbers
 
-pub last_index_note_same : (marks : SubMarks) (name : FlatName) → last_index_in (note_name marks name) name.dir ≡ max (last_index_in marks name.dir) name.index
-last_index_note_same marks name = ap (λ o. unwrap_or o 1) (get_insert_same marks.dir_indexes name.dir _)
+pub last_index_note_same : (numbers : RunNumbers) (name : FlatName) → last_index_in (note_name numbers name) name.dir ≡ max (last_index_in numbers name.dir) name.index
+last_index_note_same numbers name = ap (λ o. unwrap_or o 1) (get_insert_same numbers.dir_indexes name.dir _)
 
-pub last_index_note_other : (marks : SubMarks) (name : FlatName) (dir : ℕ) → dir ≢ name.dir → last_index_in (note_name marks name) dir ≡ last_index_in marks dir
-last_index_note_other marks name dir other = ap (λ o. unwrap_or o 1) (get_insert_other marks.dir_indexes name.dir _ dir other)
+pub last_index_note_other : (numbers : RunNumbers) (name : FlatName) (dir : ℕ) → dir ≢ name.dir → last_index_in (note_name numbers name) dir ≡ last_index_in numbers dir
+last_index_note_other numbers name dir other = ap (λ o. unwrap_or o 1) (get_insert_other numbers.dir_indexes name.dir _ dir other)
 
 -- noting a name lets no number fall
-pub note_raises : (marks : SubMarks) (name : FlatName) (dir : ℕ) → last_index_in marks dir ≤ last_index_in (note_name marks name) dir
-note_raises marks name dir =
+pub note_raises : (numbers : RunNumbers) (name : FlatName) (dir : ℕ) → last_index_in numbers dir ≤ last_index_in (note_name numbers name) dir
+note_raises numbers name dir =
     elim (cases_eq dir name.dir) [
-      | inl same ↦ subst (λ d. last_index_in marks d ≤ last_index_in (note_name marks name) d) (sym same) (omega (arith, last_index_note_same marks name))
-      | inr other ↦ omega (arith, last_index_note_other marks name dir other)
+      | inl same ↦ subst (λ d. last_index_in numbers d ≤ last_index_in (note_name numbers name) d) (sym same) (omega (arith, last_index_note_same numbers name))
+      | inr other ↦ omega (arith, last_index_note_other numbers name dir other)
     ]
 
-note_bounded : (marks : SubMarks) (name : FlatName) → ((dir : ℕ) → last_index_in marks dir ≤ marks.last_index) → (dir : ℕ) → last_index_in (note_name marks name) dir ≤ max marks.last_index name.index
-note_bounded marks name bounded dir =
+note_bounded : (numbers : RunNumbers) (name : FlatName) → ((dir : ℕ) → last_index_in numbers dir ≤ numbers.last_index) → (dir : ℕ) → last_index_in (note_name numbers name) dir ≤ max numbers.last_index name.index
+note_bounded numbers name bounded dir =
     elim (cases_eq dir name.dir) [
-      | inl same ↦ subst (λ d. last_index_in (note_name marks name) d ≤ max marks.last_index name.index) (sym same) (omega (arith, last_index_note_same marks name, bounded name.dir))
-      | inr other ↦ omega (arith, last_index_note_other marks name dir other, bounded dir)
+      | inl same ↦ subst (λ d. last_index_in (note_name numbers name) d ≤ max numbers.last_index name.index) (sym same) (omega (arith, last_index_note_same numbers name, bounded name.dir))
+      | inr other ↦ omega (arith, last_index_note_other numbers name dir other, bounded dir)
     ]
 
 -- the numbers cover a subvolume to which this name came
-pub covered_add : (sub new : Subvolume) (marks : SubMarks) (name : FlatName) → AreCovered (record { sub = sub; marks = marks }) → ((ino : ℕ) (inode : InodeRecord) → get new.inodes ino ≡ Some inode → ino ≤ marks.last_ino) → ((q : FlatName) → Contains new.names q → (name ≡ q) ⊎ Contains sub.names q) → AreCovered (record { sub = new; marks = note_name marks name })
-covered_add sub new marks name covered inos cases = record {
+pub covered_add : (sub new : Subvolume) (numbers : RunNumbers) (name : FlatName) → AreCovered (record { sub = sub; numbers = numbers }) → ((ino : ℕ) (inode : InodeRecord) → get new.inodes ino ≡ Some inode → ino ≤ numbers.last_ino) → ((q : FlatName) → Contains new.names q → (name ≡ q) ⊎ Contains sub.names q) → AreCovered (record { sub = new; numbers = note_name numbers name })
+covered_add sub new numbers name covered inos cases = record {
   inos = inos;
   indexes = λ q c. elim (cases q c) [
-    | inl same ↦ subst (λ (n : FlatName). n.index ≤ last_index_in (note_name marks name) n.dir) same (omega (arith, last_index_note_same marks name))
-    | inr old ↦ omega (arith, covered.indexes q old, note_raises marks name q.dir)
+    | inl same ↦ subst (λ (n : FlatName). n.index ≤ last_index_in (note_name numbers name) n.dir) same (omega (arith, last_index_note_same numbers name))
+    | inr old ↦ omega (arith, covered.indexes q old, note_raises numbers name q.dir)
   ];
-  directories = note_bounded marks name covered.directories;
-  at_least_one = λ dir. omega (arith, covered.at_least_one dir, note_raises marks name dir);
+  directories = note_bounded numbers name covered.directories;
+  at_least_one = λ dir. omega (arith, covered.at_least_one dir, note_raises numbers name dir);
 }
 
 -- the numbers cover a part of a subvolume that they cover
-pub covered_part : (sub new : Subvolume) (marks : SubMarks) → AreCovered (record { sub = sub; marks = marks }) → ((ino : ℕ) (inode : InodeRecord) → get new.inodes ino ≡ Some inode → ino ≤ marks.last_ino) → ((q : FlatName) → Contains new.names q → Contains sub.names q) → AreCovered (record { sub = new; marks = marks })
-covered_part sub new marks covered inos part = record {
+pub covered_part : (sub new : Subvolume) (numbers : RunNumbers) → AreCovered (record { sub = sub; numbers = numbers }) → ((ino : ℕ) (inode : InodeRecord) → get new.inodes ino ≡ Some inode → ino ≤ numbers.last_ino) → ((q : FlatName) → Contains new.names q → Contains sub.names q) → AreCovered (record { sub = new; numbers = numbers })
+covered_part sub new numbers covered inos part = record {
   inos = inos;
   indexes = λ q c. covered.indexes q (part q c);
   directories = covered.directories;
@@ -89,22 +89,22 @@ covered_part sub new marks covered inos part = record {
 }
 
 -- a next index is none that the directory has
-pub index_is_fresh : (sub : Subvolume) (marks : SubMarks) → AreCovered (record { sub = sub; marks = marks }) → (dir index : ℕ) → IsNextIndex marks dir index → (q : FlatName) → Contains sub.names q → dir ≡ q.dir → index ≢ q.index
-index_is_fresh sub marks covered dir index next q c same equal =
+pub index_is_fresh : (sub : Subvolume) (numbers : RunNumbers) → AreCovered (record { sub = sub; numbers = numbers }) → (dir index : ℕ) → IsNextIndex numbers dir index → (q : FlatName) → Contains sub.names q → dir ≡ q.dir → index ≢ q.index
+index_is_fresh sub numbers covered dir index next q c same equal =
     let below = covered.indexes q c in
     let above = next.above_those_of_directory in
-    let moved = ap (last_index_in marks) same in
+    let moved = ap (last_index_in numbers) same in
     omega (arith, below, above, equal, moved)
 
 -- a next index is in its range
-pub index_in_range : (marks : SubMarks) (dir index : ℕ) → ((d : ℕ) → 1 ≤ last_index_in marks d) → marks.last_index ≤ 2 ^ 62 → IsNextIndex marks dir index → IsIndexNumber index
-index_in_range marks dir index one low next =
+pub index_in_range : (numbers : RunNumbers) (dir index : ℕ) → ((d : ℕ) → 1 ≤ last_index_in numbers d) → numbers.last_index ≤ 2 ^ 62 → IsNextIndex numbers dir index → IsIndexNumber index
+index_in_range numbers dir index one low next =
     let above = next.above_those_of_directory in
     let below = next.at_most_one_above_all in
     (omega (arith, one dir, above), omega (arith, below, low))
 
 -- the root directory is there, so 256 is no greater than the greatest number
-pub root_below : (run : RunSub) → IsSound run → 256 ≤ run.marks.last_ino
+pub root_below : (run : RunSub) → IsSound run → 256 ≤ run.numbers.last_ino
 root_below run sound = let root = dir_record _ sound.coherent.root_is_dir in sound.covered.inos 256 root.0 root.1
 
 -- ---- items
@@ -159,10 +159,10 @@ entries_at names name free dir hash counts =
 extrefs_at : (names : List FlatName) (name : FlatName) → is_crowded names name ≡ false → (ino hash : ℕ) → counts_extref ino hash name ≡ true → extref_item_length names ino hash ≤ most_item_bytes
 extrefs_at names name free ino hash counts =
     let parts = and_parts _ _ counts in
-    let numbers = and_parts _ _ parts.1 in
+    let keys = and_parts _ _ parts.1 in
     let bound = crowded_extrefs names name free (not-true _ parts.0) in
-    let same_ino = eqb-true name.ino ino numbers.0 in
-    let same_hash = eqb-true _ hash numbers.1 in
+    let same_ino = eqb-true name.ino ino keys.0 in
+    let same_hash = eqb-true _ hash keys.1 in
     subst (λ i. extref_item_length names i hash ≤ most_item_bytes) same_ino (subst (λ h. extref_item_length names name.ino h ≤ most_item_bytes) same_hash bound)
 
 -- the near names of the new one's inode and directory, with it
@@ -170,10 +170,10 @@ refs_at : (names : List FlatName) (name : FlatName) → is_name_set names ≡ tr
 unfolding ref_item_length
 refs_at names name set absent mark ino dir counts =
     let parts = and_parts _ _ counts in
-    let numbers = and_parts _ _ parts.1 in
+    let keys = and_parts _ _ parts.1 in
     let room = leb-true _ _ (sym mark ∙ parts.0) in
-    let same_ino = eqb-true name.ino ino numbers.0 in
-    let same_dir = eqb-true name.dir dir numbers.1 in
+    let same_ino = eqb-true name.ino ino keys.0 in
+    let same_dir = eqb-true name.dir dir keys.1 in
     let sum = sum_filter_add ref_length (counts_ref ino dir) name names set absent counts in
     let same : ref_item_length names name.ino name.dir ≡ sum_by ref_length (filter (counts_ref ino dir) names) = λ i. ref_item_length names (same_ino i) (same_dir i) in
     omega (arith, room, sum, same)

@@ -8,7 +8,7 @@ use Rattle.std.specs.FinMap.{FinMap, get, entries, keys, empty, from_entries, ge
 use Rattle.std.specs.FinMap.Entries.{find}
 use Rattle.std.proofs.lemmas.Bool.{cases_eq}
 use Rattle.flat_model.specs.Names.{FlatName}
-use Rattle.flat_model.specs.Volume.{Subvolume, Volume, SubMarks, RunSub, RunVolume, last_index_in, note_name, note_ino, bare_marks, marks_at_mount, mounted, volume_of}
+use Rattle.flat_model.specs.Volume.{Subvolume, Volume, RunNumbers, RunSub, RunVolume, last_index_in, note_name, note_ino, bare_numbers, numbers_at_mount, mounted, volume_of}
 use Rattle.flat_model.specs.Coherent.{IsCoherent, IsCoherentVolume}
 use Rattle.flat_model.specs.Step.{Operated, after_one, volume_at, IsHistory}
 use Rattle.flat_model.specs.Running.{IsSound, IsSoundVolume}
@@ -28,11 +28,11 @@ get_map : {X Y : Type 0} (f : X → Y) (m : FinMap nat_cmp X) (q : ℕ) → get 
 get_map f m q = get-from_entries nat_cmp_total _ q ∙ find_map f (entries m) q ∙ ap (option_map f) (sym (get-entries m q))
 
 mount_sub : Subvolume → RunSub
-mount_sub sub = record { sub = sub; marks = marks_at_mount sub }
+mount_sub sub = record { sub = sub; numbers = numbers_at_mount sub }
 
-pub get_mounted : (volume : Volume) (id : ℕ) → get (mounted volume) id ≡ option_map (λ sub. record { sub = sub; marks = marks_at_mount sub }) (get volume id)
+pub get_mounted : (volume : Volume) (id : ℕ) → get (mounted volume) id ≡ option_map (λ sub. record { sub = sub; numbers = numbers_at_mount sub }) (get volume id)
 unfolding mounted
-get_mounted volume id = get_map (λ sub. record { sub = sub; marks = marks_at_mount sub }) volume id
+get_mounted volume id = get_map (λ sub. record { sub = sub; numbers = numbers_at_mount sub }) volume id
 
 pub get_volume_of : (run : RunVolume) (id : ℕ) → get (volume_of run) id ≡ option_map (λ (sub : RunSub). sub.sub) (get run id)
 unfolding volume_of
@@ -46,7 +46,7 @@ map_there f (Some x) y e = (x, refl, some_same y (f x) (sym e))
 pub volume_of_mounted : (volume : Volume) → volume_of (mounted volume) ≡ volume
 volume_of_mounted volume = same_map nat_cmp_total nat_cmp-IsAntisymmetric _ _ (λ id. get_volume_of (mounted volume) id ∙ ap (option_map (λ (sub : RunSub). sub.sub)) (get_mounted volume id) ∙ there (get volume id))
   where
-    there : (o : Option Subvolume) → option_map (λ (sub : RunSub). sub.sub) (option_map (λ sub. record { sub = sub; marks = marks_at_mount sub }) o) ≡ o
+    there : (o : Option Subvolume) → option_map (λ (sub : RunSub). sub.sub) (option_map (λ sub. record { sub = sub; numbers = numbers_at_mount sub }) o) ≡ o
     there None = refl
     there (Some sub) = refl
 
@@ -64,16 +64,16 @@ find_key {X} (first ∷ es) q x e =
     ] refl e
 
 -- the numbers after inode numbers were noted
-record NotedInos (marks noted : SubMarks) (inos : List ℕ) : Type 0 where
+record NotedInos (numbers noted : RunNumbers) (inos : List ℕ) : Type 0 where
   each : (ino : ℕ) → Contains inos ino → ino ≤ noted.last_ino
-  before : marks.last_ino ≤ noted.last_ino
-  index : noted.last_index ≡ marks.last_index
-  indexes : noted.dir_indexes ≡ marks.dir_indexes
+  before : numbers.last_ino ≤ noted.last_ino
+  index : noted.last_index ≡ numbers.last_index
+  indexes : noted.dir_indexes ≡ numbers.dir_indexes
 
-note_inos : (inos : List ℕ) (marks : SubMarks) → NotedInos marks (fold note_ino marks inos) inos
-note_inos [] marks = record { each = λ ino c. absurd (contains_none ino c); before = omega arith; index = refl; indexes = refl }
-note_inos (first ∷ inos) marks =
-    let rest = note_inos inos (note_ino marks first) in
+note_inos : (inos : List ℕ) (numbers : RunNumbers) → NotedInos numbers (fold note_ino numbers inos) inos
+note_inos [] numbers = record { each = λ ino c. absurd (contains_none ino c); before = omega arith; index = refl; indexes = refl }
+note_inos (first ∷ inos) numbers =
+    let rest = note_inos inos (note_ino numbers first) in
     let before = rest.before in
     record {
       each = λ ino c. elim (contains_cases first inos ino c) [ inl same ↦ omega (arith, same, before) | inr later ↦ rest.each ino later ];
@@ -83,38 +83,38 @@ note_inos (first ∷ inos) marks =
     }
 
 -- the numbers after names were noted
-record NotedNames (marks noted : SubMarks) (names : List FlatName) : Type 0 where
+record NotedNames (numbers noted : RunNumbers) (names : List FlatName) : Type 0 where
   each : (name : FlatName) → Contains names name → name.index ≤ last_index_in noted name.dir
-  before : (dir : ℕ) → last_index_in marks dir ≤ last_index_in noted dir
-  bounded : ((dir : ℕ) → last_index_in marks dir ≤ marks.last_index) → (dir : ℕ) → last_index_in noted dir ≤ noted.last_index
-  ino : noted.last_ino ≡ marks.last_ino
+  before : (dir : ℕ) → last_index_in numbers dir ≤ last_index_in noted dir
+  bounded : ((dir : ℕ) → last_index_in numbers dir ≤ numbers.last_index) → (dir : ℕ) → last_index_in noted dir ≤ noted.last_index
+  ino : noted.last_ino ≡ numbers.last_ino
 
-note_names : (names : List FlatName) (marks : SubMarks) → NotedNames marks (fold note_name marks names) names
-note_names [] marks = record { each = λ name c. absurd (contains_none name c); before = λ dir. omega arith; bounded = λ b. b; ino = refl }
-note_names (first ∷ names) marks =
-    let rest = note_names names (note_name marks first) in
-    let own : first.index ≤ last_index_in (fold note_name (note_name marks first) names) first.dir = omega (arith, rest.before first.dir, last_index_note_same marks first) in
+note_names : (names : List FlatName) (numbers : RunNumbers) → NotedNames numbers (fold note_name numbers names) names
+note_names [] numbers = record { each = λ name c. absurd (contains_none name c); before = λ dir. omega arith; bounded = λ b. b; ino = refl }
+note_names (first ∷ names) numbers =
+    let rest = note_names names (note_name numbers first) in
+    let own : first.index ≤ last_index_in (fold note_name (note_name numbers first) names) first.dir = omega (arith, rest.before first.dir, last_index_note_same numbers first) in
     record {
       each = λ name c. elim (contains_cases first names name c) [
-        | inl same ↦ subst (λ (n : FlatName). n.index ≤ last_index_in (fold note_name (note_name marks first) names) n.dir) same own
+        | inl same ↦ subst (λ (n : FlatName). n.index ≤ last_index_in (fold note_name (note_name numbers first) names) n.dir) same own
         | inr later ↦ rest.each name later
       ];
-      before = λ dir. omega (arith, note_raises marks first dir, rest.before dir);
+      before = λ dir. omega (arith, note_raises numbers first dir, rest.before dir);
       bounded = λ b. rest.bounded (λ dir. elim (cases_eq dir first.dir) [
-        | inl same ↦ subst (λ d. last_index_in (note_name marks first) d ≤ max marks.last_index first.index) (sym same) (omega (arith, last_index_note_same marks first, b first.dir))
-        | inr other ↦ omega (arith, last_index_note_other marks first dir other, b dir)
+        | inl same ↦ subst (λ d. last_index_in (note_name numbers first) d ≤ max numbers.last_index first.index) (sym same) (omega (arith, last_index_note_same numbers first, b first.dir))
+        | inr other ↦ omega (arith, last_index_note_other numbers first dir other, b dir)
       ]);
       ino = rest.ino;
     }
 
-bare_index : (dir : ℕ) → last_index_in bare_marks dir ≡ 1
+bare_index : (dir : ℕ) → last_index_in bare_numbers dir ≡ 1
 bare_index dir = ap (λ o. unwrap_or o 1) (get-empty nat_cmp dir)
 
-pub mount_sound : (sub : Subvolume) → IsCoherent sub → IsSound (record { sub = sub; marks = marks_at_mount sub })
-unfolding marks_at_mount
+pub mount_sound : (sub : Subvolume) → IsCoherent sub → IsSound (record { sub = sub; numbers = numbers_at_mount sub })
+unfolding numbers_at_mount
 mount_sound sub coherent =
-    let inos = note_inos (keys sub.inodes) bare_marks in
-    let start : SubMarks = fold note_ino bare_marks (keys sub.inodes) in
+    let inos = note_inos (keys sub.inodes) bare_numbers in
+    let start : RunNumbers = fold note_ino bare_numbers (keys sub.inodes) in
     let names = note_names sub.names start in
     let start_index : (dir : ℕ) → last_index_in start dir ≡ 1 = λ dir. ap (λ m. unwrap_or (get m dir) 1) inos.indexes ∙ bare_index dir in
     record {

@@ -81,14 +81,14 @@ base_of sub coherent moved member new dir bytes (Some target) ends apart empty =
 
 module _ (run : RunSub) (sound : IsSound run) (old new : List (List ℕ)) (is_path : IsPath new) where
   moved_comes : (base : Subvolume) (moved : FlatName) (dir : ℕ) (bytes : List ℕ) (there : Option FlatName) (index : ℕ) → IsBase run.sub base moved dir bytes → Contains run.sub.names moved → EndsAtSlot run.sub moved.dir moved.bytes (Some moved) old → EndsAtSlot run.sub dir bytes there new
-      → (is_dir_at run.sub moved.ino && is_below old new) ≡ false → IsNextIndex run.marks dir index → run.marks.last_index < 2 ^ 62
+      → (is_dir_at run.sub moved.ino && is_below old new) ≡ false → IsNextIndex run.numbers dir index → run.numbers.last_index < 2 ^ 62
       → do_collide (remove_name moved base.names) (new_name (remove_name moved base.names) (AtSlot dir bytes there) index moved.ino ∷ []) ≡ false
       → OneComes base (record { inodes = base.inodes; names = add_name (new_name (remove_name moved base.names) (AtSlot dir bytes there) index moved.ino) (remove_name moved base.names) }) (moved ∷ []) (remove_name moved base.names) (new_name (remove_name moved base.names) (AtSlot dir bytes there) index moved.ino)
   moved_comes base moved dir bytes there index is member at_old at_new not_below next few free =
       let left : List FlatName = remove_name moved base.names in
       let name : FlatName = new_name left (AtSlot dir bytes there) index moved.ino in
       let coherent : IsCoherent base = is.coherent in
-      let fresh : (q : FlatName) → Contains base.names q → dir ≡ q.dir → index ≢ q.index = λ q c. index_is_fresh run.sub run.marks sound.covered dir index next q (is.part q c) in
+      let fresh : (q : FlatName) → Contains base.names q → dir ≡ q.dir → index ≢ q.index = λ q c. index_is_fresh run.sub run.numbers sound.covered dir index next q (is.part q c) in
       let left_absent : Contains left name → ⊥ = λ c. fresh name (remove_name_gives moved base.names name c).0 refl refl in
       let found = coherent.leads_to_inode moved is.has in
       let kept : (q : FlatName) → Contains base.names q → moved ≢ q → Contains (add_name name left) q = λ q c apart. add_name_keeps name left q (remove_name_keeps moved base.names q c apart) in
@@ -111,7 +111,7 @@ module _ (run : RunSub) (sound : IsSound run) (old new : List (List ℕ)) (is_pa
           not_root = coherent.root_has_no_name moved is.has;
           in_dir = is.in_dir;
           bytes = last_is_name run.sub new is_path dir bytes there at_new;
-          index = index_in_range run.marks dir index sound.covered.at_least_one (omega (arith, few)) next;
+          index = index_in_range run.numbers dir index sound.covered.at_least_one (omega (arith, few)) next;
         };
         free = λ q c _. is.free q c;
         fresh = fresh;
@@ -164,13 +164,13 @@ module _ (run : RunSub) (sound : IsSound run) (old new : List (List ℕ)) (is_pa
       let name : FlatName = new_name left (AtSlot slot.0 slot.1 slot.2) index moved.ino in
       let name_is : name_at from to ≡ name = λ i. name_at (held.at i) (slot.3 i) in
       let left_is : left_at from to ≡ left = λ i. left_at (held.at i) (slot.3 i) in
-      let next = subst (λ (n : FlatName). IsNextIndex run.marks n.dir n.index) name_is choice.0 in
+      let next = subst (λ (n : FlatName). IsNextIndex run.numbers n.dir n.index) name_is choice.0 in
       let collide_is : do_collide (left_at from to) (name_at from to ∷ []) ≡ do_collide left (name ∷ []) = λ i. do_collide (left_is i) (name_is i ∷ []) in
       let free : do_collide left (name ∷ []) ≡ false = sym collide_is ∙ rows.1.1.1.1.1.1.1.1.0 in
       let comes = moved_comes base moved slot.0 slot.1 slot.2 index is held.member held.ends ends not_below next (leb-false _ _ rows.1.1.1.1.1.1.1.0) free in
       let after : Subvolume = record { inodes = base.inodes; names = add_name name left } in
       let coherent = coherent_rewired base after (moved ∷ []) (name ∷ []) is.coherent (rewires_one base after (moved ∷ []) left name comes) in
-      let covered = covered_add run.sub after run.marks name sound.covered (λ i r e. sound.covered.inos i r (is.inodes i r e))
+      let covered = covered_add run.sub after run.numbers name sound.covered (λ i r e. sound.covered.inos i r (is.inodes i r e))
       (λ q c. elim (add_name_cases name left q c) [ inl same ↦ inl same | inr old_name ↦ inr (is.part q (remove_name_gives moved base.names q old_name).0) ]) in
       let done : IsSound (done_at (AtSlot moved.dir moved.bytes (Some moved)) (AtSlot slot.0 slot.1 slot.2)).next = record { coherent = coherent; covered = covered } in
       let done_is : done_at from to ≡ done_at (AtSlot moved.dir moved.bytes (Some moved)) (AtSlot slot.0 slot.1 slot.2) = λ i. done_at (held.at i) (slot.3 i) in

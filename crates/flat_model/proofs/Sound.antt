@@ -24,7 +24,7 @@ use Rattle.flat_model.proofs.OneName.{free_slot, held_slot, last_is_name, slot_i
 
 -- what an operation owes: a sound subvolume, where the indexes of the names that it made are a choice
 abbrev pub KeepsSound : RunSub → Outcome → Type 0
-KeepsSound run outcome = AreNextIndexes run.marks outcome.made → IsSound outcome.next
+KeepsSound run outcome = AreNextIndexes run.numbers outcome.made → IsSound outcome.next
 
 -- no row says so
 pub unchanged_sound : (run : RunSub) → IsSound run → (answer : Answer) → KeepsSound run (unchanged run answer)
@@ -39,27 +39,27 @@ one_link (LinkInode link) = (omega arith, omega arith)
 
 module _ (run : RunSub) (sound : IsSound run) (path : List (List ℕ)) (is_path : IsPath path) (inode : InodeRecord) (keeps : KeepsLimits inode) (fits : (hash : ℕ) → xattr_item_length (attributes_of inode) hash ≤ most_item_bytes) where
   abbrev made_name : ℕ → List ℕ → ℕ → FlatName
-  made_name dir bytes index = new_name run.sub.names (AtSlot dir bytes None) index (run.marks.last_ino + 1)
+  made_name dir bytes index = new_name run.sub.names (AtSlot dir bytes None) index (run.numbers.last_ino + 1)
 
   abbrev made_sub : ℕ → List ℕ → ℕ → Subvolume
-  made_sub dir bytes index = record { inodes = insert run.sub.inodes (run.marks.last_ino + 1) inode; names = add_name (made_name dir bytes index) run.sub.names }
+  made_sub dir bytes index = record { inodes = insert run.sub.inodes (run.numbers.last_ino + 1) inode; names = add_name (made_name dir bytes index) run.sub.names }
 
-  no_inode : get run.sub.inodes (run.marks.last_ino + 1) ≡ None
+  no_inode : get run.sub.inodes (run.numbers.last_ino + 1) ≡ None
   no_inode =
-      elim (get run.sub.inodes (run.marks.last_ino + 1)) as (λ o. get run.sub.inodes (run.marks.last_ino + 1) ≡ o → o ≡ None) [
+      elim (get run.sub.inodes (run.numbers.last_ino + 1)) as (λ o. get run.sub.inodes (run.numbers.last_ino + 1) ≡ o → o ≡ None) [
         | None ↦ λ e. refl
-        | Some old ↦ λ e. let below = sound.covered.inos (run.marks.last_ino + 1) old e in absurd (omega arith)
+        | Some old ↦ λ e. let below = sound.covered.inos (run.numbers.last_ino + 1) old e in absurd (omega arith)
       ] refl
 
-  made_comes : (dir : ℕ) (bytes : List ℕ) (index : ℕ) → EndsAtSlot run.sub dir bytes None path → IsNextIndex run.marks dir index → run.marks.last_ino < 2 ^ 62 → run.marks.last_index < 2 ^ 62 → do_collide run.sub.names (made_name dir bytes index ∷ []) ≡ false → OneComes run.sub (made_sub dir bytes index) [] run.sub.names (made_name dir bytes index)
+  made_comes : (dir : ℕ) (bytes : List ℕ) (index : ℕ) → EndsAtSlot run.sub dir bytes None path → IsNextIndex run.numbers dir index → run.numbers.last_ino < 2 ^ 62 → run.numbers.last_index < 2 ^ 62 → do_collide run.sub.names (made_name dir bytes index ∷ []) ≡ false → OneComes run.sub (made_sub dir bytes index) [] run.sub.names (made_name dir bytes index)
   made_comes dir bytes index ends next few_inos few_indexes free =
-      let ino = run.marks.last_ino + 1 in
+      let ino = run.numbers.last_ino + 1 in
       let name : FlatName = made_name dir bytes index in
       let new : Subvolume = made_sub dir bytes index in
       let low = root_below run sound in
       let other_ino : (i : ℕ) (old : InodeRecord) → get run.sub.inodes i ≡ Some old → i ≢ ino = λ i old e same. let below = sound.covered.inos i old e in omega (arith, below, same) in
       let kept : (i : ℕ) (old : InodeRecord) → get run.sub.inodes i ≡ Some old → get new.inodes i ≡ Some old = λ i old e. get_insert_other run.sub.inodes ino inode i (other_ino i old e) ∙ e in
-      let fresh = index_is_fresh run.sub run.marks sound.covered dir index next in
+      let fresh = index_is_fresh run.sub run.numbers sound.covered dir index next in
       let in_dir = let found = dir_record _ ends.is_dir in ap is_dir_there (kept dir found.0 found.1) ∙ found.2 in
       let old_way : (d : ℕ) → is_dir_at run.sub d ≡ true → (way : List FlatName) × LeadsUp new.names d way = λ d is_dir.
       let way = sound.coherent.ends_at_root d is_dir in
@@ -89,7 +89,7 @@ module _ (run : RunSub) (sound : IsSound run) (path : List (List ℕ)) (is_path 
           not_root = λ same. omega (arith, low, same);
           in_dir = in_dir;
           bytes = last_is_name run.sub path is_path dir bytes None ends;
-          index = index_in_range run.marks dir index sound.covered.at_least_one (omega (arith, few_indexes)) next;
+          index = index_in_range run.numbers dir index sound.covered.at_least_one (omega (arith, few_indexes)) next;
         };
         free = λ q c _. slot_is_free run.sub path dir bytes ends q c;
         fresh = fresh;
@@ -107,25 +107,25 @@ module _ (run : RunSub) (sound : IsSound run) (path : List (List ℕ)) (is_path 
   pub make_sound : (index : ℕ) → KeepsSound run (make run path inode index)
   unfolding make
   make_sound index =
-      let name_at : WalkEnd → FlatName = λ w. new_name run.sub.names w index (run.marks.last_ino + 1) in
+      let name_at : WalkEnd → FlatName = λ w. new_name run.sub.names w index (run.numbers.last_ino + 1) in
       outcome_cases (KeepsSound run) run (make_rows run (walk run.sub path) (name_at (walk run.sub path))) (make_done run inode (name_at (walk run.sub path))) (unchanged_sound run sound) (λ rows choice.
       let few = or_parts _ _ rows.1.1.1.0 in
       let slot = free_slot (walk run.sub path) rows.0 rows.1.0 rows.1.1.0 in
       let ends = walk_slot run.sub path slot.0 slot.1 None slot.2 in
-      let next = subst (λ w. IsNextIndex run.marks (dir_of w) index) slot.2 choice.0 in
+      let next = subst (λ w. IsNextIndex run.numbers (dir_of w) index) slot.2 choice.0 in
       let free = subst (λ w. do_collide run.sub.names (name_at w ∷ []) ≡ false) slot.2 rows.1.1.1.1.0 in
       let comes = made_comes slot.0 slot.1 index ends next (leb-false _ _ few.0) (leb-false _ _ few.1) free in
       let name : FlatName = made_name slot.0 slot.1 index in
       let new : Subvolume = made_sub slot.0 slot.1 index in
       let coherent = coherent_rewired run.sub new [] (name ∷ []) sound.coherent (rewires_one run.sub new [] run.sub.names name comes) in
-      let noted : AreCovered (record { sub = run.sub; marks = note_ino run.marks (run.marks.last_ino + 1) }) = record {
+      let noted : AreCovered (record { sub = run.sub; numbers = note_ino run.numbers (run.numbers.last_ino + 1) }) = record {
         inos = λ i r e. let below = sound.covered.inos i r e in omega arith;
         indexes = sound.covered.indexes;
         directories = sound.covered.directories;
         at_least_one = sound.covered.at_least_one;
       } in
-      let covered = covered_add run.sub new (note_ino run.marks (run.marks.last_ino + 1)) name noted
-      (λ i r e. elim (insert_cases run.sub.inodes (run.marks.last_ino + 1) inode i r e) [
+      let covered = covered_add run.sub new (note_ino run.numbers (run.numbers.last_ino + 1)) name noted
+      (λ i r e. elim (insert_cases run.sub.inodes (run.numbers.last_ino + 1) inode i r e) [
         | inl new_one ↦ omega (arith, new_one.0)
         | inr old_one ↦ let below = sound.covered.inos i r old_one.1 in omega arith
       ])
@@ -148,12 +148,12 @@ more_links (DirInode dir) count other c few = absurd (true≢false other)
 more_links (LinkInode link) count other c few = let low = c.0 in (omega (arith, low), omega (arith, few))
 
 module _ (run : RunSub) (sound : IsSound run) (old new : List (List ℕ)) (is_path : IsPath new) where
-  link_comes : (from : FlatName) → Contains run.sub.names from → (dir : ℕ) (bytes : List ℕ) (index : ℕ) → EndsAtSlot run.sub dir bytes None new → is_dir_at run.sub from.ino ≡ false → links_of run.sub.names from.ino < most_links → IsNextIndex run.marks dir index → run.marks.last_index < 2 ^ 62
+  link_comes : (from : FlatName) → Contains run.sub.names from → (dir : ℕ) (bytes : List ℕ) (index : ℕ) → EndsAtSlot run.sub dir bytes None new → is_dir_at run.sub from.ino ≡ false → links_of run.sub.names from.ino < most_links → IsNextIndex run.numbers dir index → run.numbers.last_index < 2 ^ 62
       → do_collide run.sub.names (new_name run.sub.names (AtSlot dir bytes None) index from.ino ∷ []) ≡ false
       → OneComes run.sub (record { inodes = run.sub.inodes; names = add_name (new_name run.sub.names (AtSlot dir bytes None) index from.ino) run.sub.names }) [] run.sub.names (new_name run.sub.names (AtSlot dir bytes None) index from.ino)
   link_comes from c dir bytes index ends no_dir few_links next few_indexes free =
       let name : FlatName = new_name run.sub.names (AtSlot dir bytes None) index from.ino in
-      let fresh = index_is_fresh run.sub run.marks sound.covered dir index next in
+      let fresh = index_is_fresh run.sub run.numbers sound.covered dir index next in
       let found = sound.coherent.leads_to_inode from c in
       let not_root = sound.coherent.root_has_no_name from c in
       record {
@@ -177,7 +177,7 @@ module _ (run : RunSub) (sound : IsSound run) (old new : List (List ℕ)) (is_pa
           not_root = not_root;
           in_dir = ends.is_dir;
           bytes = last_is_name run.sub new is_path dir bytes None ends;
-          index = index_in_range run.marks dir index sound.covered.at_least_one (omega (arith, few_indexes)) next;
+          index = index_in_range run.numbers dir index sound.covered.at_least_one (omega (arith, few_indexes)) next;
         };
         free = λ q d _. slot_is_free run.sub new dir bytes ends q d;
         fresh = fresh;
@@ -205,21 +205,21 @@ module _ (run : RunSub) (sound : IsSound run) (old new : List (List ℕ)) (is_pa
       let ends = walk_slot run.sub new to_slot.0 to_slot.1 None to_slot.2 in
       let name : FlatName = new_name run.sub.names (AtSlot to_slot.0 to_slot.1 None) index from.ino in
       let name_is : name_here ≡ name = λ i. name_at (from_slot.3 i) (to_slot.2 i) in
-      let next = subst (λ (n : FlatName). IsNextIndex run.marks n.dir n.index) name_is choice.0 in
+      let next = subst (λ (n : FlatName). IsNextIndex run.numbers n.dir n.index) name_is choice.0 in
       let free = subst (λ n. do_collide run.sub.names (n ∷ []) ≡ false) name_is rows.1.1.1.1.1.1.0 in
       let few_links = subst (λ (n : FlatName). links_of run.sub.names n.ino < most_links) name_is (leb-false _ _ rows.1.1.1.1.0) in
       let no_dir = subst (λ w. is_dir_there (record_at run.sub w) ≡ false) from_slot.3 rows.1.1.0 in
       let comes = link_comes from member to_slot.0 to_slot.1 index ends no_dir few_links next (leb-false _ _ rows.1.1.1.1.1.0) free in
       let after : Subvolume = record { inodes = run.sub.inodes; names = add_name name run.sub.names } in
       let coherent = coherent_rewired run.sub after [] (name ∷ []) sound.coherent (rewires_one run.sub after [] run.sub.names name comes) in
-      let covered = covered_add run.sub after run.marks name sound.covered sound.covered.inos (add_name_cases name run.sub.names) in
+      let covered = covered_add run.sub after run.numbers name sound.covered sound.covered.inos (add_name_cases name run.sub.names) in
       subst (λ n. IsSound (link_done run n).next) (sym name_is) (record { coherent = coherent; covered = covered }))
 
 -- ---- unlink and rmdir
 
 -- the numbers cover what a removal leaves
 covered_without : (run : RunSub) (name : FlatName) → AreCovered run → AreCovered (record run { sub = without_name run.sub name })
-covered_without run name covered = covered_part run.sub (without_name run.sub name) run.marks covered
+covered_without run name covered = covered_part run.sub (without_name run.sub name) run.numbers covered
     (λ i r e. covered.inos i r (without_gives run.sub name i r e).0)
     (λ q c. (remove_name_gives name run.sub.names q c).0)
 

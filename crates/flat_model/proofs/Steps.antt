@@ -13,11 +13,11 @@ use Rattle.flat_model.specs.declared.place.Place.{Place}
 use Rattle.flat_model.specs.Records.{InodeRecord, FileRecord, Attributes, FileInode, DirInode, LinkInode, is_dir_record, is_link_record, attributes_of, with_attributes, new_file, new_dir, new_link}
 use Rattle.flat_model.specs.Lengths.{most_item_bytes, xattr_item_length}
 use Rattle.flat_model.specs.Contents.{most_file_bytes, written, truncated}
-use Rattle.flat_model.specs.Volume.{Subvolume, SubMarks, RunSub, RunVolume, Volume, is_dir_at, is_dir_there, is_link_there, mounted, volume_of, note_name}
+use Rattle.flat_model.specs.Volume.{Subvolume, RunNumbers, RunSub, RunVolume, Volume, bare_numbers, is_dir_at, is_dir_there, is_link_there, mounted, volume_of, note_name}
 use Rattle.flat_model.specs.Coherent.{IsCoherent, IsLinkCount, KeepsLimits, KeepsFileLimits, KeepAttributeLimits, KeepsKindLimits, AreBytes, IsNameBytes}
 use Rattle.flat_model.specs.Walk.{WalkEnd, AtRoot, AtSlot, Missing, Blocked, walk, ino_at, record_at, is_absent, is_blocked, is_root}
-use Rattle.flat_model.specs.Operations.{Outcome, lookup, file_rows, file_there, write, truncate, read, with_record, with_record_at, attributes_there, with_attributes_at, attribute_rows, set_attribute, remove_attribute, get_attribute, make, link, unlink, rmdir, rename, exchange}
-use Rattle.flat_model.specs.Step.{VolumeOutcome, step, at_place, at_places, place_of, marks_in, IsChoice, AreNextIndexes, IsPath, IsSpelled, IsInLimits, Operated, after_one, after_all, MayCome, IsHistory}
+use Rattle.flat_model.specs.Operations.{Outcome, lookup, file_rows, file_there, write, truncate, read, with_record, with_record_of, with_record_at, attributes_there, with_attributes_at, attribute_rows, set_attribute, remove_attribute, get_attribute, make, link, unlink, rmdir, rename, exchange}
+use Rattle.flat_model.specs.Step.{VolumeOutcome, volume_unchanged, with_outcome, outcome_of, outcome_within, is_within_sub, step, place_of, numbers_in, IsChoice, AreNextIndexes, IsPath, IsSpelled, IsInLimits, Operated, after_one, after_all, MayCome, IsHistory}
 use Rattle.flat_model.specs.Running.{IsSound, IsSoundVolume}
 use Rattle.flat_model.proofs.Maps.{some_same, some_none, get_insert_same, get_insert_other, insert_cases}
 use Rattle.flat_model.proofs.Edits.{coherent_with_record}
@@ -57,7 +57,9 @@ record_there : (sub : Subvolume) (end : WalkEnd) (at : IsThere sub end) → reco
 record_there sub end at = ap (λ o. elim o [ None ↦ None | Some ino ↦ get sub.inodes ino ]) at.at ∙ at.there
 
 with_record_there : (run : RunSub) (end : WalkEnd) (at : IsThere run.sub end) (inode : InodeRecord) → with_record_at run end inode ≡ record run { sub = with_record run.sub at.ino inode }
-with_record_there run end at inode = ap (λ o. elim o [ None ↦ run | Some ino ↦ record run { sub = with_record run.sub ino inode } ]) at.at
+with_record_there run end at inode =
+    ap (λ o. elim o [ None ↦ run | Some ino ↦ with_record_of run ino inode ]) at.at
+    ∙ ap (λ o. elim o [ None ↦ run | Some old ↦ record run { sub = with_record run.sub at.ino inode } ]) at.there
 
 -- another record of an inode keeps a run sound
 sound_with_record : (run : RunSub) → IsSound run → (ino : ℕ) (old new : InodeRecord) → get run.sub.inodes ino ≡ Some old → is_dir_record new ≡ is_dir_record old → ((count : ℕ) → IsLinkCount old count → IsLinkCount new count) → KeepsLimits new → ((hash : ℕ) → xattr_item_length (attributes_of new) hash ≤ most_item_bytes) → IsSound (record run { sub = with_record run.sub ino new })
@@ -195,35 +197,6 @@ pub get_attribute_sound : (run : RunSub) → IsSound run → (path : List (List 
 unfolding get_attribute
 get_attribute_sound run sound path name = outcome_cases (KeepsSound run) run (attribute_rows run (walk run.sub path) name) _ (unchanged_sound run sound) (λ rows choice. sound)
 
--- ---- operations on a volume
-
--- what an operation owes: a sound volume, where the indexes of the names that it made are a choice
-abbrev KeepsVolume : RunVolume → ℕ → VolumeOutcome → Type 0
-KeepsVolume run id outcome = AreNextIndexes (marks_in run id) outcome.made → IsSoundVolume outcome.next
-
-at_place_sound : (run : RunVolume) → IsSoundVolume run → (place : Place) (operate : RunSub → Outcome) → ((sub : RunSub) → IsSound sub → KeepsSound sub (operate sub)) → KeepsVolume run place.sub.0 (at_place run place operate)
-at_place_sound run sound place operate keeps =
-    elim (get run place.sub.0) as (λ o. get run place.sub.0 ≡ o → AreNextIndexes (elim o [ None ↦ Rattle.flat_model.specs.Volume.bare_marks | Some sub ↦ sub.marks ]) (outcome_at o).made → IsSoundVolume (outcome_at o).next) [
-      | None ↦ λ e choice. sound
-      | Some sub ↦ λ e choice id other f. elim (insert_cases run place.sub.0 (operate sub).next id other f) [
-        | inl here ↦ subst IsSound (sym here.1) (keeps sub (sound place.sub.0 sub e) choice)
-        | inr old ↦ sound id other old.1
-      ]
-    ] refl
-  where
-    outcome_at : Option RunSub → VolumeOutcome
-    outcome_at o = elim o [
-      | None ↦ Rattle.flat_model.specs.Step.volume_unchanged run NoEnt
-      | Some sub ↦ let outcome = operate sub in record { next = insert run place.sub.0 outcome.next; answer = outcome.answer; made = outcome.made }
-    ]
-
-at_places_sound : (run : RunVolume) → IsSoundVolume run → (one two : Place) (operate : RunSub → Outcome) → ((sub : RunSub) → IsSound sub → KeepsSound sub (operate sub)) → KeepsVolume run one.sub.0 (at_places run one two operate)
-at_places_sound run sound one two operate keeps =
-    elim (nat_eq one.sub.0 two.sub.0) as (λ b. KeepsVolume run one.sub.0 (cond b (at_place run one operate) (Rattle.flat_model.specs.Step.volume_unchanged run Xdev))) [
-      | true ↦ at_place_sound run sound one operate keeps
-      | false ↦ λ choice. sound
-    ]
-
 -- a record as it is made keeps its limits
 no_attributes : KeepAttributeLimits empty
 no_attributes name value e = absurd (some_none value (sym e ∙ get-empty _ name))
@@ -244,23 +217,51 @@ new_dir_keeps = record { attributes = no_attributes; kind = tt }
 new_link_keeps : (target : List ℕ) → 1 ≤ length target → length target ≤ 1023 → AreBytes target → KeepsLimits (new_link target)
 new_link_keeps target some few bytes = record { attributes = no_attributes; kind = record { at_least_one = some; at_most_1023 = few; are_bytes = bytes } }
 
-pub step_sound : (run : RunVolume) → IsSoundVolume run → (op : Op) → IsSpelled op → IsInLimits op → (indexes : List ℕ) → AreNextIndexes (marks_in run (place_of op).sub.0) (step run op indexes).made → IsSoundVolume (step run op indexes).next
+-- each operation in a subvolume
+pub outcome_sound : (run : RunSub) → IsSound run → (op : Op) → IsSpelled op → IsInLimits op → (indexes : List ℕ) → KeepsSound run (outcome_of run op indexes)
+outcome_sound run sound (Create place) spelled limits indexes = make_sound run sound place.path spelled new_file new_file_keeps no_attribute_items (slice_index indexes 0)
+outcome_sound run sound (Mkdir place) spelled limits indexes = make_sound run sound place.path spelled new_dir new_dir_keeps no_attribute_items (slice_index indexes 0)
+outcome_sound run sound (Symlink place target) spelled limits indexes = make_sound run sound place.path spelled.0 (new_link target) (new_link_keeps target limits.0 limits.1 spelled.1) no_attribute_items (slice_index indexes 0)
+outcome_sound run sound (Link old new) spelled limits indexes = link_sound run sound old.path new.path spelled.1 (slice_index indexes 0)
+outcome_sound run sound (Unlink place) spelled limits indexes = unlink_sound run sound place.path
+outcome_sound run sound (Rmdir place) spelled limits indexes = rmdir_sound run sound place.path
+outcome_sound run sound (Rename old new) spelled limits indexes = rename_sound run sound old.path new.path spelled.1 (slice_index indexes 0)
+outcome_sound run sound (Exchange one two) spelled limits indexes = exchange_sound run sound one.path two.path spelled.0 spelled.1 (slice_index indexes 0) (slice_index indexes 1)
+outcome_sound run sound (Lookup place) spelled limits indexes = lookup_sound run sound place.path
+outcome_sound run sound (Write place offset text) spelled limits indexes = write_sound run sound place.path offset text spelled.1
+outcome_sound run sound (Truncate place size) spelled limits indexes = truncate_sound run sound place.path size
+outcome_sound run sound (Read place offset count) spelled limits indexes = read_sound run sound place.path offset count
+outcome_sound run sound (SetAttr place name value) spelled limits indexes = set_attribute_sound run sound place.path name value spelled.1 limits spelled.2
+outcome_sound run sound (DelAttr place name) spelled limits indexes = remove_attribute_sound run sound place.path name
+outcome_sound run sound (GetAttr place name) spelled limits indexes = get_attribute_sound run sound place.path name
+
+-- ---- operations on a volume
+
+-- what holds where the subvolume isn't there, where the places are of two, and of what comes of the operation in its subvolume, holds of what the operation comes to
+pub step_cases : (P : VolumeOutcome → Type 0) (run : RunVolume) (op : Op) (indexes : List ℕ) → P (volume_unchanged run NoEnt) → P (volume_unchanged run Xdev)
+    → ((sub : RunSub) → get run (place_of op).sub.0 ≡ Some sub → P (with_outcome run (place_of op).sub.0 (outcome_of sub op indexes))) → P (step run op indexes)
 unfolding step
-step_sound run sound (Create place) spelled limits indexes choice = at_place_sound run sound place (λ sub. make sub place.path new_file (slice_index indexes 0)) (λ sub s. make_sound sub s place.path spelled new_file new_file_keeps no_attribute_items (slice_index indexes 0)) choice
-step_sound run sound (Mkdir place) spelled limits indexes choice = at_place_sound run sound place (λ sub. make sub place.path new_dir (slice_index indexes 0)) (λ sub s. make_sound sub s place.path spelled new_dir new_dir_keeps no_attribute_items (slice_index indexes 0)) choice
-step_sound run sound (Symlink place target) spelled limits indexes choice = at_place_sound run sound place (λ sub. make sub place.path (new_link target) (slice_index indexes 0)) (λ sub s. make_sound sub s place.path spelled.0 (new_link target) (new_link_keeps target limits.0 limits.1 spelled.1) no_attribute_items (slice_index indexes 0)) choice
-step_sound run sound (Link old new) spelled limits indexes choice = at_places_sound run sound old new (λ sub. link sub old.path new.path (slice_index indexes 0)) (λ sub s. link_sound sub s old.path new.path spelled.1 (slice_index indexes 0)) choice
-step_sound run sound (Unlink place) spelled limits indexes choice = at_place_sound run sound place (λ sub. unlink sub place.path) (λ sub s. unlink_sound sub s place.path) choice
-step_sound run sound (Rmdir place) spelled limits indexes choice = at_place_sound run sound place (λ sub. rmdir sub place.path) (λ sub s. rmdir_sound sub s place.path) choice
-step_sound run sound (Rename old new) spelled limits indexes choice = at_places_sound run sound old new (λ sub. rename sub old.path new.path (slice_index indexes 0)) (λ sub s. rename_sound sub s old.path new.path spelled.1 (slice_index indexes 0)) choice
-step_sound run sound (Exchange one two) spelled limits indexes choice = at_places_sound run sound one two (λ sub. exchange sub one.path two.path (slice_index indexes 0) (slice_index indexes 1)) (λ sub s. exchange_sound sub s one.path two.path spelled.0 spelled.1 (slice_index indexes 0) (slice_index indexes 1)) choice
-step_sound run sound (Lookup place) spelled limits indexes choice = at_place_sound run sound place (λ sub. lookup sub place.path) (λ sub s. lookup_sound sub s place.path) choice
-step_sound run sound (Write place offset text) spelled limits indexes choice = at_place_sound run sound place (λ sub. write sub place.path offset text) (λ sub s. write_sound sub s place.path offset text spelled.1) choice
-step_sound run sound (Truncate place size) spelled limits indexes choice = at_place_sound run sound place (λ sub. truncate sub place.path size) (λ sub s. truncate_sound sub s place.path size) choice
-step_sound run sound (Read place offset count) spelled limits indexes choice = at_place_sound run sound place (λ sub. read sub place.path offset count) (λ sub s. read_sound sub s place.path offset count) choice
-step_sound run sound (SetAttr place name value) spelled limits indexes choice = at_place_sound run sound place (λ sub. set_attribute sub place.path name value) (λ sub s. set_attribute_sound sub s place.path name value spelled.1 limits spelled.2) choice
-step_sound run sound (DelAttr place name) spelled limits indexes choice = at_place_sound run sound place (λ sub. remove_attribute sub place.path name) (λ sub s. remove_attribute_sound sub s place.path name) choice
-step_sound run sound (GetAttr place name) spelled limits indexes choice = at_place_sound run sound place (λ sub. get_attribute sub place.path name) (λ sub s. get_attribute_sound sub s place.path name) choice
+step_cases P run op indexes nowhere across within =
+    elim (is_within_sub op) as (λ b. P (cond b (outcome_within run op indexes) (volume_unchanged run Xdev))) [
+      | true ↦ elim (get run (place_of op).sub.0) as (λ o. get run (place_of op).sub.0 ≡ o → P (elim o [ None ↦ volume_unchanged run NoEnt | Some sub ↦ with_outcome run (place_of op).sub.0 (outcome_of sub op indexes) ])) [
+        | None ↦ λ e. nowhere
+        | Some sub ↦ λ e. within sub e
+      ] refl
+      | false ↦ across
+    ]
+
+-- the numbers beside a subvolume that is there
+pub numbers_there : (run : RunVolume) (id : ℕ) (sub : RunSub) → get run id ≡ Some sub → numbers_in run id ≡ sub.numbers
+numbers_there run id sub there = ap (λ o. elim o [ None ↦ bare_numbers | Some s ↦ s.numbers ]) there
+
+pub step_sound : (run : RunVolume) → IsSoundVolume run → (op : Op) → IsSpelled op → IsInLimits op → (indexes : List ℕ) → AreNextIndexes (numbers_in run (place_of op).sub.0) (step run op indexes).made → IsSoundVolume (step run op indexes).next
+step_sound run sound op spelled limits indexes =
+    let id : ℕ = (place_of op).sub.0 in
+    step_cases (λ (o : VolumeOutcome). AreNextIndexes (numbers_in run id) o.made → IsSoundVolume o.next) run op indexes (λ choice. sound) (λ choice. sound)
+    (λ sub there choice other run_sub found. elim (insert_cases run id (outcome_of sub op indexes).next other run_sub found) [
+      | inl here ↦ subst IsSound (sym here.1) (outcome_sound sub (sound id sub there) op spelled limits indexes (subst (λ numbers. AreNextIndexes numbers (outcome_of sub op indexes).made) (numbers_there run id sub there) choice))
+      | inr old ↦ sound other run_sub old.1
+    ])
 
 pub after_one_sound : (run : RunVolume) → IsSoundVolume run → (operated : Operated) → MayCome run operated → IsSoundVolume (after_one run operated)
 after_one_sound run sound operated may =

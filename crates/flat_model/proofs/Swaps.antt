@@ -56,10 +56,10 @@ links_swapped names a b new_a new_b set in_a in_b apart at_b at_a absent_a absen
     ]
 
 -- an index above those that the directory has had is none that it has
-above_is_fresh : (run : RunSub) → IsSound run → (dir index : ℕ) → last_index_in run.marks dir < index → (q : FlatName) → Contains run.sub.names q → dir ≡ q.dir → index ≢ q.index
+above_is_fresh : (run : RunSub) → IsSound run → (dir index : ℕ) → last_index_in run.numbers dir < index → (q : FlatName) → Contains run.sub.names q → dir ≡ q.dir → index ≢ q.index
 above_is_fresh run sound dir index above q c same equal =
     let below = sound.covered.indexes q c in
-    let moved = ap (last_index_in run.marks) same in
+    let moved = ap (last_index_in run.numbers) same in
     omega (arith, below, above, equal, moved)
 
 module _ (run : RunSub) (sound : IsSound run) (one two : List (List ℕ)) (is_path_one : IsPath one) (is_path_two : IsPath two) where
@@ -76,8 +76,8 @@ module _ (run : RunSub) (sound : IsSound run) (one two : List (List ℕ)) (is_pa
   swapped a b i j = record { inodes = run.sub.inodes; names = add_name (at_second a b j) (add_name (at_first a b i) (left_names a b)) }
 
   module _ (hold_a : HoldsName run.sub one) (hold_b : HoldsName run.sub two) (i j : ℕ) (apart : hold_a.name.ino ≢ hold_b.name.ino)
-      (not_below : is_below one two ≡ false) (not_above : is_below two one ≡ false) (few : run.marks.last_index < 2 ^ 62)
-      (next_a : IsNextIndex run.marks hold_a.name.dir i) (next_b : IsNextIndex (note_name run.marks (at_first hold_a.name hold_b.name i)) hold_b.name.dir j)
+      (not_below : is_below one two ≡ false) (not_above : is_below two one ≡ false) (few : run.numbers.last_index < 2 ^ 62)
+      (next_a : IsNextIndex run.numbers hold_a.name.dir i) (next_b : IsNextIndex (note_name run.numbers (at_first hold_a.name hold_b.name i)) hold_b.name.dir j)
       (free_a : is_crowded (swapped hold_a.name hold_b.name i j).names (at_first hold_a.name hold_b.name i) ≡ false)
       (free_b : is_crowded (swapped hold_a.name hold_b.name i j).names (at_second hold_a.name hold_b.name j) ≡ false) where
     abbrev a : FlatName
@@ -102,7 +102,7 @@ module _ (run : RunSub) (sound : IsSound run) (one two : List (List ℕ)) (is_pa
     fresh_a = above_is_fresh run sound hold_a.name.dir i next_a.above_those_of_directory
 
     fresh_b : (q : FlatName) → Contains run.sub.names q → hold_b.name.dir ≡ q.dir → j ≢ q.index
-    fresh_b = above_is_fresh run sound hold_b.name.dir j (let above = next_b.above_those_of_directory in let raised = note_raises run.marks new_a hold_b.name.dir in omega (arith, above, raised))
+    fresh_b = above_is_fresh run sound hold_b.name.dir j (let above = next_b.above_those_of_directory in let raised = note_raises run.numbers new_a hold_b.name.dir in omega (arith, above, raised))
 
     left_part : (q : FlatName) → Contains (left_names hold_a.name hold_b.name) q → Contains run.sub.names q × (hold_a.name ≢ q) × (hold_b.name ≢ q)
     left_part q c =
@@ -154,8 +154,8 @@ module _ (run : RunSub) (sound : IsSound run) (one two : List (List ℕ)) (is_pa
           ] refl
         ] refl
 
-    marks_low : (note_name run.marks new_a).last_index ≤ 2 ^ 62
-    marks_low = let most = next_a.at_most_one_above_all in omega (arith, few, most)
+    numbers_low : (note_name run.numbers new_a).last_index ≤ 2 ^ 62
+    numbers_low = let most = next_a.at_most_one_above_all in omega (arith, few, most)
 
     fit_a : IsFit run.sub after new_a
     fit_a = let found = sound.coherent.leads_to_inode hold_b.name hold_b.member in record {
@@ -164,7 +164,7 @@ module _ (run : RunSub) (sound : IsSound run) (one two : List (List ℕ)) (is_pa
       not_root = sound.coherent.root_has_no_name hold_b.name hold_b.member;
       in_dir = hold_a.ends.is_dir;
       bytes = last_is_name run.sub one is_path_one hold_a.name.dir hold_a.name.bytes (Some hold_a.name) hold_a.ends;
-      index = index_in_range run.marks hold_a.name.dir i sound.covered.at_least_one (omega (arith, few)) next_a;
+      index = index_in_range run.numbers hold_a.name.dir i sound.covered.at_least_one (omega (arith, few)) next_a;
     }
 
     fit_b : IsFit run.sub after new_b
@@ -174,7 +174,7 @@ module _ (run : RunSub) (sound : IsSound run) (one two : List (List ℕ)) (is_pa
       not_root = sound.coherent.root_has_no_name hold_a.name hold_a.member;
       in_dir = hold_b.ends.is_dir;
       bytes = last_is_name run.sub two is_path_two hold_b.name.dir hold_b.name.bytes (Some hold_b.name) hold_b.ends;
-      index = index_in_range (note_name run.marks new_a) hold_b.name.dir j (λ d. let one_at = sound.covered.at_least_one d in let raised = note_raises run.marks new_a d in omega (arith, one_at, raised)) marks_low next_b;
+      index = index_in_range (note_name run.numbers new_a) hold_b.name.dir j (λ d. let one_at = sound.covered.at_least_one d in let raised = note_raises run.numbers new_a d in omega (arith, one_at, raised)) numbers_low next_b;
     }
 
     places_apart : hold_a.name.dir ≡ hold_b.name.dir → hold_a.name.bytes ≢ hold_b.name.bytes
@@ -183,8 +183,8 @@ module _ (run : RunSub) (sound : IsSound run) (one two : List (List ℕ)) (is_pa
     indexes_apart_two : hold_a.name.dir ≡ hold_b.name.dir → i ≢ j
     indexes_apart_two same_dir same_index =
         let above = next_b.above_those_of_directory in
-        let noted = last_index_note_same run.marks new_a in
-        let moved = ap (last_index_in (note_name run.marks new_a)) same_dir in
+        let noted = last_index_note_same run.numbers new_a in
+        let moved = ap (last_index_in (note_name run.numbers new_a)) same_dir in
         omega (arith, above, noted, moved, same_index)
 
     rewires : Rewires run.sub after (hold_a.name ∷ hold_b.name ∷ []) (new_a ∷ new_b ∷ [])
@@ -240,13 +240,13 @@ module _ (run : RunSub) (sound : IsSound run) (one two : List (List ℕ)) (is_pa
           (names_fit_without (remove_name hold_a.name run.sub.names) hold_b.name (names_fit_without run.sub.names hold_a.name (names_fit run.sub sound.coherent))) refl refl free_a free_b;
     }
 
-    pub swapped_sound : IsSound (record { sub = after; marks = note_name (note_name run.marks new_a) new_b })
+    pub swapped_sound : IsSound (record { sub = after; numbers = note_name (note_name run.numbers new_a) new_b })
     swapped_sound = record {
       coherent = coherent_rewired run.sub after (hold_a.name ∷ hold_b.name ∷ []) (new_a ∷ new_b ∷ []) sound.coherent rewires;
       covered =
           let middle : Subvolume = record { inodes = run.sub.inodes; names = add_name new_a run.sub.names } in
-          let first = covered_add run.sub middle run.marks new_a sound.covered sound.covered.inos (add_name_cases new_a run.sub.names) in
-          covered_add middle after (note_name run.marks new_a) new_b first sound.covered.inos (λ q c. elim (add_name_cases new_b (add_name new_a left) q c) [
+          let first = covered_add run.sub middle run.numbers new_a sound.covered sound.covered.inos (add_name_cases new_a run.sub.names) in
+          covered_add middle after (note_name run.numbers new_a) new_b first sound.covered.inos (λ q c. elim (add_name_cases new_b (add_name new_a left) q c) [
             | inl same ↦ inl same
             | inr rest ↦ inr (elim (add_name_cases new_a left q rest) [
               | inl same ↦ subst (λ z. Contains middle.names z) same (add_name_has new_a run.sub.names)
@@ -275,7 +275,7 @@ module _ (run : RunSub) (sound : IsSound run) (one two : List (List ℕ)) (is_pa
       let b_at : WalkEnd = AtSlot hold_b.name.dir hold_b.name.bytes (Some hold_b.name) in
       let one_inode : is_one_inode first second ≡ is_one_inode a_at b_at = λ k. is_one_inode (hold_a.at k) (hold_b.at k) in
       let apart : hold_a.name.ino ≢ hold_b.name.ino = λ same. true≢false (sym (eq-eqb hold_a.name.ino hold_b.name.ino same) ∙ sym one_inode ∙ rows.1.1.0) in
-      let chosen : Rattle.flat_model.specs.Step.AreNextIndexes run.marks (made_at a_at b_at) = subst (λ (o : Outcome). Rattle.flat_model.specs.Step.AreNextIndexes run.marks o.made) (λ k. done_at (hold_a.at k) (hold_b.at k)) choice in
+      let chosen : Rattle.flat_model.specs.Step.AreNextIndexes run.numbers (made_at a_at b_at) = subst (λ (o : Outcome). Rattle.flat_model.specs.Step.AreNextIndexes run.numbers o.made) (λ k. done_at (hold_a.at k) (hold_b.at k)) choice in
       let collide_is : do_collide (left_at first second) (made_at first second) ≡ do_collide (left_at a_at b_at) (made_at a_at b_at) = λ k. do_collide (left_at (hold_a.at k) (hold_b.at k)) (made_at (hold_a.at k) (hold_b.at k)) in
       let crowded = or_parts _ _ (sym collide_is ∙ rows.1.1.1.1.1.0) in
       let done = swapped_sound hold_a hold_b i j apart below.0 below.1 (leb-false _ _ rows.1.1.1.1.0) chosen.0 chosen.1.0 crowded.0 (or_parts _ _ crowded.1).0 in

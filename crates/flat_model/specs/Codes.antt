@@ -5,7 +5,7 @@ use Rattle.std.specs.FinMap as map
 use mathlib.Core.Logic.{inl, inr}
 use Rattle.flat_model.specs.Records.{Attributes, Blocks, FileRecord, LinkRecord, InodeRecord, FileInode, DirInode, LinkInode}
 use Rattle.flat_model.specs.Names.{FlatName}
-use Rattle.flat_model.specs.Volume.{Subvolume, SubMarks, RunSub, RunVolume}
+use Rattle.flat_model.specs.Volume.{Subvolume, RunNumbers, RunSub, RunVolume}
 
 abbrev pub bytes_code : Coded (List ℕ)
 bytes_code = coded_list coded_ℕ
@@ -44,11 +44,11 @@ name_code = code_by (ℕ × (ℕ × (List ℕ × (ℕ × Bool)))) (coded× coded
 abbrev pub subvolume_code : Coded Subvolume
 subvolume_code = code_by ((map.FinMap Rattle.std.specs.Ordering.nat_cmp InodeRecord) × List FlatName) (coded× (map.code coded_ℕ inode_code) (coded_list name_code)) (λ s. (s.inodes, s.names)) (λ p. record { inodes = p.0; names = p.1 }) (λ _. refl)
 
-abbrev pub marks_code : Coded SubMarks
-marks_code = code_by (ℕ × (ℕ × map.FinMap Rattle.std.specs.Ordering.nat_cmp ℕ)) (coded× coded_ℕ (coded× coded_ℕ (map.code coded_ℕ coded_ℕ))) (λ m. (m.last_ino, (m.last_index, m.dir_indexes))) (λ p. record { last_ino = p.0; last_index = p.1.0; dir_indexes = p.1.1 }) (λ _. refl)
+abbrev pub numbers_code : Coded RunNumbers
+numbers_code = code_by (ℕ × (ℕ × map.FinMap Rattle.std.specs.Ordering.nat_cmp ℕ)) (coded× coded_ℕ (coded× coded_ℕ (map.code coded_ℕ coded_ℕ))) (λ m. (m.last_ino, (m.last_index, m.dir_indexes))) (λ p. record { last_ino = p.0; last_index = p.1.0; dir_indexes = p.1.1 }) (λ _. refl)
 
 abbrev pub run_sub_code : Coded RunSub
-run_sub_code = code_by (Subvolume × SubMarks) (coded× subvolume_code marks_code) (λ r. (r.sub, r.marks)) (λ p. record { sub = p.0; marks = p.1 }) (λ _. refl)
+run_sub_code = code_by (Subvolume × RunNumbers) (coded× subvolume_code numbers_code) (λ r. (r.sub, r.numbers)) (λ p. record { sub = p.0; numbers = p.1 }) (λ _. refl)
 
 -- the code of a volume in a run
 abbrev pub run_volume_code : Coded RunVolume

@@ -2,7 +2,7 @@
 use Rattle.std.specs.Prelude.{ℕ, ◌+◌, ◌&&◌, not, List, length, filter, sum_by, nat_eq}
 use Rattle.std.specs.FinMap.{entries}
 use Rattle.blk_base.specs.Crc.{name_hash_of, extref_hash_of}
-use Rattle.flat_model.specs.Names.{FlatName}
+use Rattle.flat_model.specs.Names.{FlatName, hashed_of}
 use Rattle.flat_model.specs.Records.{Attributes, LinkRecord}
 
 -- the most bytes of one item in a leaf ("Header": what is left of 4096 bytes beside the block's and one item's header)
@@ -35,7 +35,7 @@ extref_item_length names ino hash = sum_by extref_length (filter (λ name. not n
 
 -- the bytes of the DIR_ITEM item of a directory and a hash: an entry for each of its names of that hash ("DIR_ITEM")
 unfoldable pub dir_item_length : List FlatName → ℕ → ℕ → ℕ
-dir_item_length names dir hash = sum_by entry_length (filter (λ name. nat_eq name.dir dir && nat_eq (name_hash_of name.bytes) hash) names)
+dir_item_length names dir hash = sum_by entry_length (hashed_of names dir hash)
 
 -- the bytes of an attribute's entry: as a name's entry in a DIR_ITEM item, and the value ("XATTR_ITEM")
 abbrev pub attribute_length : List ℕ × List ℕ → ℕ

@@ -7,6 +7,9 @@ pub mod Coherent
 pub mod Walk
 pub mod Operations
 pub mod Step
+pub mod Refusal
+pub mod Needs
 pub mod Running
 pub mod Codes
 pub mod Unmarked
+pub mod Points

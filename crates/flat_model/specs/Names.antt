@@ -5,6 +5,7 @@ use Rattle.std.specs.Ordering.{nat_cmp, bool_cmp, on, then_cmp, is_lt, is_eq, ma
 use Rattle.std.specs.Cmp.{IsTotalOrder, then_total, on_total, nat_cmp_total, bool_cmp_total}
 use Rattle.std.specs.Cmp.Lexicographic.{slice_cmp, nat_list_cmp_total}
 use Rattle.std.specs.List.{list_all}
+use Rattle.blk_base.specs.Crc.{name_hash_of}
 
 -- a name: the directory that has it, its index there, its bytes, the inode that it leads to, and whether it is near, which
 -- is held in an INODE_REF item, or far, which is held in an INODE_EXTREF item ("INODE_REF", "INODE_EXTREF", "DIR_INDEX")
@@ -65,6 +66,14 @@ names_of names ino = filter (leads_to ino) names
 -- the names in a directory ("DIR_INDEX")
 abbrev pub entries_of : List FlatName → ℕ → List FlatName
 entries_of names dir = filter (stands_in dir) names
+
+-- whether a directory has the name, and its bytes have this hash ("DIR_ITEM": key offset)
+abbrev pub is_hashed_in : ℕ → ℕ → FlatName → Bool
+is_hashed_in dir hash name = nat_eq name.dir dir && nat_eq (name_hash_of name.bytes) hash
+
+-- the names in a directory whose bytes have this hash ("DIR_ITEM": key offset)
+abbrev pub hashed_of : List FlatName → ℕ → ℕ → List FlatName
+hashed_of names dir hash = filter (is_hashed_in dir hash) names
 
 -- the name in a slot, where there is one ("DIR_ITEM")
 abbrev pub name_in_slot : List FlatName → ℕ → List ℕ → Option FlatName

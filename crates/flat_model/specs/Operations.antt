@@ -10,7 +10,7 @@ use Rattle.flat_model.specs.Names.{FlatName, add_name, remove_name, entries_of, 
 use Rattle.flat_model.specs.Lengths.{most_item_bytes, most_ref_bytes, ref_length, ref_item_length, extref_item_length, dir_item_length, xattr_item_length}
 use Rattle.flat_model.specs.Contents.{most_file_bytes, bytes_read, written, truncated}
 use Rattle.flat_model.specs.Coherent.{most_links}
-use Rattle.flat_model.specs.Volume.{Subvolume, SubMarks, RunSub, note_name, note_ino, is_dir_there, is_other_there, is_link_there}
+use Rattle.flat_model.specs.Volume.{Subvolume, RunNumbers, RunSub, note_name, note_ino, is_dir_there, is_other_there, is_link_there}
 use Rattle.flat_model.specs.Walk.{WalkEnd, AtRoot, AtSlot, Missing, Blocked, walk, ino_at, record_at, is_absent, is_dirless, is_blocked, is_root, is_taken, dir_of, bytes_of, is_one_inode, is_below}
 
 -- What an operation comes to: the subvolume in its run afterwards, the answer, and the names that it made, in their order (own)
@@ -38,12 +38,12 @@ has_entries sub None = false
 has_entries sub (Some ino) = nat_lt 0 (length (entries_of sub.names ino))
 
 -- whether the subvolume has had an inode number of 2^62 or above (own)
-abbrev pub inos_are_spent : SubMarks → Bool
-inos_are_spent marks = nat_le (2 ^ 62) marks.last_ino
+abbrev pub inos_are_spent : RunNumbers → Bool
+inos_are_spent numbers = nat_le (2 ^ 62) numbers.last_ino
 
 -- whether the subvolume has had an index of 2^62 or above (own)
-abbrev pub indexes_are_spent : SubMarks → Bool
-indexes_are_spent marks = nat_le (2 ^ 62) marks.last_index
+abbrev pub indexes_are_spent : RunNumbers → Bool
+indexes_are_spent numbers = nat_le (2 ^ 62) numbers.last_index
 
 -- whether a name may be near: with it, the near names of its inode and directory take at most 2000 bytes ("INODE_REF", own)
 abbrev pub has_room_near : List FlatName → FlatName → Bool
@@ -97,8 +97,8 @@ abbrev pub with_record : Subvolume → ℕ → InodeRecord → Subvolume
 with_record sub ino inode = record sub { inodes = insert sub.inodes ino inode }
 
 -- a run in which names were made: the subvolume, and the numbers that these names leave (own)
-abbrev pub with_made : SubMarks → Subvolume → List FlatName → RunSub
-with_made marks sub made = record { sub = sub; marks = fold note_name marks made }
+abbrev pub with_made : RunNumbers → Subvolume → List FlatName → RunSub
+with_made numbers sub made = record { sub = sub; numbers = fold note_name numbers made }
 
 -- the rows of create, mkdir and symlink (own)
 abbrev pub make_rows : RunSub → WalkEnd → FlatName → List (Bool × Answer)
@@ -106,14 +106,14 @@ make_rows run place name =
     (is_dirless place, NoEnt)
     ∷ (is_blocked place, NotDir)
     ∷ (is_taken place, Exists)
-    ∷ (inos_are_spent run.marks || indexes_are_spent run.marks, TooLarge)
+    ∷ (inos_are_spent run.numbers || indexes_are_spent run.numbers, TooLarge)
     ∷ (do_collide run.sub.names (name ∷ []), Collide)
     ∷ []
 
 -- a new inode with this record and this name (own)
 abbrev pub make_done : RunSub → InodeRecord → FlatName → Outcome
 make_done run inode name = record {
-  next = with_made (note_ino run.marks name.ino) (record { inodes = insert run.sub.inodes name.ino inode; names = add_name name run.sub.names }) (name ∷ []);
+  next = with_made (note_ino run.numbers name.ino) (record { inodes = insert run.sub.inodes name.ino inode; names = add_name name run.sub.names }) (name ∷ []);
   answer = Number name.ino;
   made = name ∷ [];
 }
@@ -123,7 +123,7 @@ make_done run inode name = record {
 unfoldable pub make : RunSub → List (List ℕ) → InodeRecord → ℕ → Outcome
 make run path inode index =
     let place = walk run.sub path in
-    let name = new_name run.sub.names place index (run.marks.last_ino + 1) in
+    let name = new_name run.sub.names place index (run.numbers.last_ino + 1) in
     unless_refused run (make_rows run place name) (make_done run inode name)
 
 -- the rows of link (own)
@@ -134,14 +134,14 @@ link_rows run from to name =
     ∷ (is_dir_there (record_at run.sub from), IsDir)
     ∷ (is_taken to, Exists)
     ∷ (nat_le most_links (links_of run.sub.names name.ino), Links)
-    ∷ (indexes_are_spent run.marks, TooLarge)
+    ∷ (indexes_are_spent run.numbers, TooLarge)
     ∷ (do_collide run.sub.names (name ∷ []), Collide)
     ∷ []
 
 -- a further name (own)
 abbrev pub link_done : RunSub → FlatName → Outcome
 link_done run name = record {
-  next = with_made run.marks (record { inodes = run.sub.inodes; names = add_name name run.sub.names }) (name ∷ []);
+  next = with_made run.numbers (record { inodes = run.sub.inodes; names = add_name name run.sub.names }) (name ∷ []);
   answer = Plain;
   made = name ∷ [];
 }
@@ -195,20 +195,20 @@ rename_rows run old new from to left name =
     ∷ (not (is_root to) && (is_other_there moved && is_dir_there target), IsDir)
     ∷ (not (is_root to) && (is_dir_there target && has_entries run.sub (ino_at to)), NotEmpty)
     ∷ (is_root from || (is_root to || (is_dir_there moved && is_below old new)), Loop)
-    ∷ (indexes_are_spent run.marks, TooLarge)
+    ∷ (indexes_are_spent run.numbers, TooLarge)
     ∷ (do_collide left (name ∷ []), Collide)
     ∷ []
 
 -- a name in place of the one that went (own)
 abbrev pub rename_done : RunSub → Subvolume → List FlatName → FlatName → Outcome
 rename_done run without left name = record {
-  next = with_made run.marks (record { inodes = without.inodes; names = add_name name left }) (name ∷ []);
+  next = with_made run.numbers (record { inodes = without.inodes; names = add_name name left }) (name ∷ []);
   answer = Plain;
   made = name ∷ [];
 }
 
--- rename: what is at one place gets the other in place of it, and what was there loses that name. The names that go are
--- away before the new one is made ("INODE_REF", "DIR_ITEM")
+-- rename: the name at one place moves to the other, and the name that stood there goes. The names that go are away before
+-- the new one is made ("INODE_REF", "DIR_ITEM")
 unfoldable pub rename : RunSub → List (List ℕ) → List (List ℕ) → ℕ → Outcome
 rename run old new index =
     let from = walk run.sub old in
@@ -225,14 +225,14 @@ exchange_rows run one two first second left made =
     ∷ (is_blocked first || is_blocked second, NotDir)
     ∷ (is_one_inode first second, Plain)
     ∷ (is_root first || (is_root second || (is_below one two || is_below two one)), Loop)
-    ∷ (indexes_are_spent run.marks, TooLarge)
+    ∷ (indexes_are_spent run.numbers, TooLarge)
     ∷ (do_collide left made, Collide)
     ∷ []
 
 -- names in place of those that went (own)
 abbrev pub exchange_done : RunSub → List FlatName → List FlatName → Outcome
 exchange_done run left made = record {
-  next = with_made run.marks (record { inodes = run.sub.inodes; names = add_names left made }) made;
+  next = with_made run.numbers (record { inodes = run.sub.inodes; names = add_names left made }) made;
   answer = Plain;
   made = made;
 }
@@ -273,9 +273,13 @@ file_there (Some (FileInode file)) = file
 file_there (Some (DirInode dir)) = no_file
 file_there (Some (LinkInode link)) = no_file
 
--- the run with this record of the inode at the end of a walk, where there is one (own)
+-- the run with this record of an inode, where the inode is there (own)
+abbrev pub with_record_of : RunSub → ℕ → InodeRecord → RunSub
+with_record_of run ino inode = elim (get run.sub.inodes ino) [ None ↦ run | Some old ↦ record run { sub = with_record run.sub ino inode } ]
+
+-- the run with this record of the inode at the end of a walk, where it is there (own)
 abbrev pub with_record_at : RunSub → WalkEnd → InodeRecord → RunSub
-with_record_at run place inode = elim (ino_at place) [ None ↦ run | Some ino ↦ record run { sub = with_record run.sub ino inode } ]
+with_record_at run place inode = elim (ino_at place) [ None ↦ run | Some ino ↦ with_record_of run ino inode ]
 
 -- write: a text from an offset on; it answers the count of its bytes ("EXTENT_DATA")
 unfoldable pub write : RunSub → List (List ℕ) → ℕ → List ℕ → Outcome

@@ -8,10 +8,10 @@ use Rattle.flat_model.specs.Coherent.{IsCoherent}
 
 -- the numbers beside a subvolume cover it: no inode number and no index that it has is above them, and 1 stands for no index (own)
 pub record AreCovered (run : RunSub) : Type 0 where
-  pub inos : (ino : ℕ) (inode : InodeRecord) → get run.sub.inodes ino ≡ Some inode → ino ≤ run.marks.last_ino
-  pub indexes : (name : FlatName) → Contains run.sub.names name → name.index ≤ last_index_in run.marks name.dir
-  pub directories : (dir : ℕ) → last_index_in run.marks dir ≤ run.marks.last_index
-  pub at_least_one : (dir : ℕ) → 1 ≤ last_index_in run.marks dir
+  pub inos : (ino : ℕ) (inode : InodeRecord) → get run.sub.inodes ino ≡ Some inode → ino ≤ run.numbers.last_ino
+  pub indexes : (name : FlatName) → Contains run.sub.names name → name.index ≤ last_index_in run.numbers name.dir
+  pub directories : (dir : ℕ) → last_index_in run.numbers dir ≤ run.numbers.last_index
+  pub at_least_one : (dir : ℕ) → 1 ≤ last_index_in run.numbers dir
 
 -- a subvolume in a run is sound: it is coherent, and the numbers beside it cover it (own)
 pub record IsSound (run : RunSub) : Type 0 where

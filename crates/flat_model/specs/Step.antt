@@ -1,5 +1,5 @@
 -- What an operation makes of a volume, which choices it leaves, and what a history makes of a volume.
-use Rattle.std.specs.Prelude.{◌≡◌, ℕ, ◌+◌, ◌<◌, ◌≤◌, Bool, cond, List, [], ◌∷◌, length, take, Some, None, All, fold, nat_eq, slice_index, ⊤}
+use Rattle.std.specs.Prelude.{◌≡◌, ℕ, ◌+◌, ◌<◌, ◌≤◌, Bool, true, cond, List, [], ◌∷◌, length, take, Some, None, All, fold, nat_eq, slice_index, ⊤}
 use Rattle.std.specs.FinMap.{get, insert}
 use Rattle.flat_model.specs.declared.answer.Answer.{Answer}
 use Rattle.flat_model.specs.declared.answer.Answer.TheVariants.{NoEnt, Xdev}
@@ -9,7 +9,7 @@ use Rattle.flat_model.specs.declared.place.Place.{Place}
 use Rattle.flat_model.specs.Records.{new_file, new_dir, new_link}
 use Rattle.flat_model.specs.Names.{FlatName}
 use Rattle.flat_model.specs.Coherent.{AreBytes, IsNameBytes}
-use Rattle.flat_model.specs.Volume.{Volume, SubMarks, RunSub, RunVolume, bare_marks, note_name, last_index_in, mounted, volume_of}
+use Rattle.flat_model.specs.Volume.{Volume, RunNumbers, RunSub, RunVolume, bare_numbers, note_name, last_index_in, mounted, volume_of}
 use Rattle.flat_model.specs.Operations.{Outcome, make, link, unlink, rmdir, rename, exchange, lookup, write, truncate, read, set_attribute, remove_attribute, get_attribute}
 
 -- What an operation comes to: the volume in its run afterwards, the answer, and the names that it made, in their order (own)
@@ -21,35 +21,6 @@ pub record VolumeOutcome : Type 0 where
 -- an answer with which nothing changes (own)
 abbrev pub volume_unchanged : RunVolume → Answer → VolumeOutcome
 volume_unchanged run answer = record { next = run; answer = answer; made = [] }
-
--- an operation at one place: in the place's subvolume, where that is there (own)
-abbrev pub at_place : RunVolume → Place → (RunSub → Outcome) → VolumeOutcome
-at_place run place operate = elim (get run place.sub.0) [
-  | None ↦ volume_unchanged run NoEnt
-  | Some sub ↦ let outcome = operate sub in record { next = insert run place.sub.0 outcome.next; answer = outcome.answer; made = outcome.made }
-]
-
--- an operation at two places, which have to be of one subvolume (own)
-abbrev pub at_places : RunVolume → Place → Place → (RunSub → Outcome) → VolumeOutcome
-at_places run one two operate = cond (nat_eq one.sub.0 two.sub.0) (at_place run one operate) (volume_unchanged run Xdev)
-
--- What an operation comes to, where its new names get these indexes, in the order in which they are made (own)
-unfoldable pub step : RunVolume → Op → List ℕ → VolumeOutcome
-step run (Create place) indexes = at_place run place (λ sub. make sub place.path new_file (slice_index indexes 0))
-step run (Mkdir place) indexes = at_place run place (λ sub. make sub place.path new_dir (slice_index indexes 0))
-step run (Symlink place target) indexes = at_place run place (λ sub. make sub place.path (new_link target) (slice_index indexes 0))
-step run (Link old new) indexes = at_places run old new (λ sub. link sub old.path new.path (slice_index indexes 0))
-step run (Unlink place) indexes = at_place run place (λ sub. unlink sub place.path)
-step run (Rmdir place) indexes = at_place run place (λ sub. rmdir sub place.path)
-step run (Rename old new) indexes = at_places run old new (λ sub. rename sub old.path new.path (slice_index indexes 0))
-step run (Exchange one two) indexes = at_places run one two (λ sub. exchange sub one.path two.path (slice_index indexes 0) (slice_index indexes 1))
-step run (Lookup place) indexes = at_place run place (λ sub. lookup sub place.path)
-step run (Write place offset text) indexes = at_place run place (λ sub. write sub place.path offset text)
-step run (Truncate place size) indexes = at_place run place (λ sub. truncate sub place.path size)
-step run (Read place offset count) indexes = at_place run place (λ sub. read sub place.path offset count)
-step run (SetAttr place name value) indexes = at_place run place (λ sub. set_attribute sub place.path name value)
-step run (DelAttr place name) indexes = at_place run place (λ sub. remove_attribute sub place.path name)
-step run (GetAttr place name) indexes = at_place run place (λ sub. get_attribute sub place.path name)
 
 -- the place of an operation, the first where it has two
 abbrev pub place_of : Op → Place
@@ -69,20 +40,68 @@ place_of (SetAttr place name value) = place
 place_of (DelAttr place name) = place
 place_of (GetAttr place name) = place
 
+-- whether the places of an operation are of one subvolume
+abbrev pub is_within_sub : Op → Bool
+is_within_sub (Create place) = true
+is_within_sub (Mkdir place) = true
+is_within_sub (Symlink place target) = true
+is_within_sub (Link old new) = nat_eq old.sub.0 new.sub.0
+is_within_sub (Unlink place) = true
+is_within_sub (Rmdir place) = true
+is_within_sub (Rename old new) = nat_eq old.sub.0 new.sub.0
+is_within_sub (Exchange one two) = nat_eq one.sub.0 two.sub.0
+is_within_sub (Lookup place) = true
+is_within_sub (Write place offset text) = true
+is_within_sub (Truncate place size) = true
+is_within_sub (Read place offset count) = true
+is_within_sub (SetAttr place name value) = true
+is_within_sub (DelAttr place name) = true
+is_within_sub (GetAttr place name) = true
+
+-- what an operation comes to in the subvolume of its places, where its new names get these indexes, in the order in which they are made (own)
+abbrev pub outcome_of : RunSub → Op → List ℕ → Outcome
+outcome_of run (Create place) indexes = make run place.path new_file (slice_index indexes 0)
+outcome_of run (Mkdir place) indexes = make run place.path new_dir (slice_index indexes 0)
+outcome_of run (Symlink place target) indexes = make run place.path (new_link target) (slice_index indexes 0)
+outcome_of run (Link old new) indexes = link run old.path new.path (slice_index indexes 0)
+outcome_of run (Unlink place) indexes = unlink run place.path
+outcome_of run (Rmdir place) indexes = rmdir run place.path
+outcome_of run (Rename old new) indexes = rename run old.path new.path (slice_index indexes 0)
+outcome_of run (Exchange one two) indexes = exchange run one.path two.path (slice_index indexes 0) (slice_index indexes 1)
+outcome_of run (Lookup place) indexes = lookup run place.path
+outcome_of run (Write place offset text) indexes = write run place.path offset text
+outcome_of run (Truncate place size) indexes = truncate run place.path size
+outcome_of run (Read place offset count) indexes = read run place.path offset count
+outcome_of run (SetAttr place name value) indexes = set_attribute run place.path name value
+outcome_of run (DelAttr place name) indexes = remove_attribute run place.path name
+outcome_of run (GetAttr place name) indexes = get_attribute run place.path name
+
+-- a volume in which a subvolume came to this (own)
+abbrev pub with_outcome : RunVolume → ℕ → Outcome → VolumeOutcome
+with_outcome run id outcome = record { next = insert run id outcome.next; answer = outcome.answer; made = outcome.made }
+
+-- what an operation of places of one subvolume comes to: NoEnt where the subvolume isn't there (own)
+abbrev pub outcome_within : RunVolume → Op → List ℕ → VolumeOutcome
+outcome_within run op indexes = elim (get run (place_of op).sub.0) [ None ↦ volume_unchanged run NoEnt | Some sub ↦ with_outcome run (place_of op).sub.0 (outcome_of sub op indexes) ]
+
+-- What an operation comes to, where its new names get these indexes, in the order in which they are made (own)
+unfoldable pub step : RunVolume → Op → List ℕ → VolumeOutcome
+step run op indexes = cond (is_within_sub op) (outcome_within run op indexes) (volume_unchanged run Xdev)
+
 -- the numbers beside a subvolume; where it isn't there, those of a bare one
-abbrev pub marks_in : RunVolume → ℕ → SubMarks
-marks_in run id = elim (get run id) [ None ↦ bare_marks | Some sub ↦ sub.marks ]
+abbrev pub numbers_in : RunVolume → ℕ → RunNumbers
+numbers_in run id = elim (get run id) [ None ↦ bare_numbers | Some sub ↦ sub.numbers ]
 
 -- a new name's index may be this: at least 2 and above every index that its directory has had, and at most one above the
 -- greatest that any directory of the subvolume has had, or 2 where there was none ("DIR_INDEX", own)
-pub record IsNextIndex (marks : SubMarks) (dir index : ℕ) : Type 0 where
-  pub above_those_of_directory : last_index_in marks dir < index
-  pub at_most_one_above_all : index ≤ marks.last_index + 1
+pub record IsNextIndex (numbers : RunNumbers) (dir index : ℕ) : Type 0 where
+  pub above_those_of_directory : last_index_in numbers dir < index
+  pub at_most_one_above_all : index ≤ numbers.last_index + 1
 
 -- the indexes of names that are made one after the other may be these (own)
-abbrev pub AreNextIndexes : SubMarks → List FlatName → Type 0
-AreNextIndexes marks [] = ⊤
-AreNextIndexes marks (name ∷ names) = IsNextIndex marks name.dir name.index × AreNextIndexes (note_name marks name) names
+abbrev pub AreNextIndexes : RunNumbers → List FlatName → Type 0
+AreNextIndexes numbers [] = ⊤
+AreNextIndexes numbers (name ∷ names) = IsNextIndex numbers name.dir name.index × AreNextIndexes (note_name numbers name) names
 
 -- the indexes of the at most two names that an operation made, 0 where there is none (own)
 abbrev pub indexes_of : List FlatName → List ℕ
@@ -93,7 +112,7 @@ indexes_of (name ∷ other ∷ names) = name.index ∷ other.index ∷ []
 -- the indexes of the names that the operation makes may be these, the only choice that it leaves (own)
 pub record IsChoice (run : RunVolume) (op : Op) (indexes : List ℕ) : Type 0 where
   pub shown : indexes_of (step run op indexes).made ≡ indexes
-  pub next : AreNextIndexes (marks_in run (place_of op).sub.0) (step run op indexes).made
+  pub next : AreNextIndexes (numbers_in run (place_of op).sub.0) (step run op indexes).made
 
 -- what holds of each path by itself: at most 64 names, each of them a name (own limits)
 abbrev pub IsPath : List (List ℕ) → Type 0

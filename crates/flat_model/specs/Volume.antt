@@ -50,35 +50,35 @@ is_dir_at sub ino = is_dir_there (get sub.inodes ino)
 -- What a run keeps beside a subvolume: the greatest inode number that it has had since the mount, the greatest index that
 -- any of its directories has had, and for each directory the greatest index that it has had. Index 1 stands for none,
 -- since indexes begin at 2 ("DIR_INDEX", own)
-pub record SubMarks : Type 0 where
+pub record RunNumbers : Type 0 where
   pub last_ino : ℕ
   pub last_index : ℕ
   pub dir_indexes : FinMap nat_cmp ℕ
 
 -- the greatest index that a directory has had, 1 where it has had none (own)
-abbrev pub last_index_in : SubMarks → ℕ → ℕ
-last_index_in marks dir = unwrap_or (get marks.dir_indexes dir) 1
+abbrev pub last_index_in : RunNumbers → ℕ → ℕ
+last_index_in numbers dir = unwrap_or (get numbers.dir_indexes dir) 1
 
 -- the numbers once this name has been there (own)
-abbrev pub note_name : SubMarks → FlatName → SubMarks
-note_name marks name = record marks { last_index = max marks.last_index name.index; dir_indexes = insert marks.dir_indexes name.dir (max (last_index_in marks name.dir) name.index) }
+abbrev pub note_name : RunNumbers → FlatName → RunNumbers
+note_name numbers name = record numbers { last_index = max numbers.last_index name.index; dir_indexes = insert numbers.dir_indexes name.dir (max (last_index_in numbers name.dir) name.index) }
 
 -- the numbers once this inode has been there (own)
-abbrev pub note_ino : SubMarks → ℕ → SubMarks
-note_ino marks ino = record marks { last_ino = max marks.last_ino ino }
+abbrev pub note_ino : RunNumbers → ℕ → RunNumbers
+note_ino numbers ino = record numbers { last_ino = max numbers.last_ino ino }
 
 -- the numbers of a subvolume that has had nothing but its root directory (own)
-abbrev pub bare_marks : SubMarks
-bare_marks = record { last_ino = 256; last_index = 1; dir_indexes = empty }
+abbrev pub bare_numbers : RunNumbers
+bare_numbers = record { last_ino = 256; last_index = 1; dir_indexes = empty }
 
 -- the numbers at the mount: the greatest that the subvolume has (own)
-unfoldable pub marks_at_mount : Subvolume → SubMarks
-marks_at_mount sub = fold note_name (fold note_ino bare_marks (keys sub.inodes)) sub.names
+unfoldable pub numbers_at_mount : Subvolume → RunNumbers
+numbers_at_mount sub = fold note_name (fold note_ino bare_numbers (keys sub.inodes)) sub.names
 
 -- a subvolume in a run: what it is, and the numbers beside it (own)
 pub record RunSub : Type 0 where
   pub sub : Subvolume
-  pub marks : SubMarks
+  pub numbers : RunNumbers
 
 -- a volume in a run (own)
 abbrev pub RunVolume : Type 0
@@ -86,7 +86,7 @@ RunVolume = FinMap nat_cmp RunSub
 
 -- a volume as its run begins (own)
 unfoldable pub mounted : Volume → RunVolume
-mounted volume = from_entries (map (λ entry. (entry.0, record { sub = entry.1; marks = marks_at_mount entry.1 })) (entries volume))
+mounted volume = from_entries (map (λ entry. (entry.0, record { sub = entry.1; numbers = numbers_at_mount entry.1 })) (entries volume))
 
 -- what the volume in a run is, without the numbers beside it (own)
 unfoldable pub volume_of : RunVolume → Volume

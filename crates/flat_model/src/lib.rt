@@ -9,6 +9,7 @@ mod answer;
 mod laws;
 mod op;
 mod place;
+mod request;
 #[cfg(test)]
 mod tests;
 mod view;
@@ -17,4 +18,5 @@ pub use answer::{Answer, Reason};
 pub use laws::{histories_stay_coherent, mounting_is_sound, operations_keep_soundness};
 pub use op::Op;
 pub use place::{Path, Place};
+pub use request::{Line, Request};
 pub use view::{Kind, NameAt, NameView};

@@ -19,9 +19,9 @@ pub enum Op {
     Unlink(Place),
     /// Removes a directory without names.
     Rmdir(Place),
-    /// Gives what is at the first place the second in place of it.
+    /// Moves the name at the first place to the second; a name that stood there goes.
     Rename(Place, Place),
-    /// Swaps what is at two places.
+    /// Swaps what the names at two places lead to.
     Exchange(Place, Place),
     /// Asks for the inode number at a place.
     Lookup(Place),

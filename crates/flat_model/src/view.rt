@@ -39,7 +39,7 @@ impl NameAt {
 /// subvolume alone.
 pub trait NameView {
     ghost use Rattle.flat_model.specs.Volume.{Subvolume, is_dir_at};
-    ghost use Rattle.flat_model.specs.Names.{names_of, entries_of, name_in_slot};
+    ghost use Rattle.flat_model.specs.Names.{names_of, entries_of, hashed_of, name_in_slot};
     ghost use Rattle.flat_model.specs.Unmarked.{unmarked};
 
     /// The subvolume that is seen.
@@ -52,6 +52,10 @@ pub trait NameView {
     /// The names in a directory, in any order.
     fn entries(&self, alloc: Global, dir: Ino) -> Result<Vec<NameAt>, OutOfMemory>
         ensures { IfOk result (λ names. IsPermutation (map unmarked (entries_of (sub self.now).names dir.0)) names.items) };
+
+    /// The names in a directory whose bytes have this hash, in any order ("DIR_ITEM": key offset).
+    fn hashed(&self, alloc: Global, dir: Ino, hash: u32) -> Result<Vec<NameAt>, OutOfMemory>
+        ensures { IfOk result (λ names. IsPermutation (map unmarked (hashed_of (sub self.now).names dir.0 hash)) names.items) };
 
     /// The inode to which the name in a directory leads, where the directory has it. Takes no memory.
     fn slot(&self, dir: Ino, name: &[u8]) -> Option<Ino>

@@ -58,19 +58,19 @@ module _ (run one : RunSub) (name : FlatName) (ino links : ℕ) (is : one ≡ wi
   counts = counted ∙ ap (λ (r : RunSub). links_of r.sub.names ino) is ∙ ap (links_of (remove_name name run.sub.names)) leads
 
   -- the last name of an inode went, and the inode with it
-  pub last_gone : links ≡ 0 → (inodes : map.FinMap nat_cmp InodeRecord) → inodes ≡ map.remove one.sub.inodes ino → record { sub = record { inodes = inodes; names = one.sub.names }; marks = one.marks } ≡ with_sub run (without_name run.sub name)
+  pub last_gone : links ≡ 0 → (inodes : map.FinMap nat_cmp InodeRecord) → inodes ≡ map.remove one.sub.inodes ino → record { sub = record { inodes = inodes; names = one.sub.names }; numbers = one.numbers } ≡ with_sub run (without_name run.sub name)
   last_gone none inodes gone =
       let left : List FlatName = remove_name name run.sub.names in
-      ap (λ (m : map.FinMap nat_cmp InodeRecord). record { sub = record { inodes = m; names = one.sub.names }; marks = one.marks }) gone
-      ∙ ap (λ (r : RunSub). record { sub = record { inodes = map.remove r.sub.inodes ino; names = r.sub.names }; marks = r.marks }) is
-      ∙ ap (λ k. record { sub = record { inodes = map.remove run.sub.inodes k; names = left }; marks = run.marks }) leads
-      ∙ sym (ap (λ b. record { sub = record { inodes = cond b (map.remove run.sub.inodes name.ino) run.sub.inodes; names = left }; marks = run.marks }) (eq-eqb (links_of left name.ino) 0 (sym counts ∙ none)))
+      ap (λ (m : map.FinMap nat_cmp InodeRecord). record { sub = record { inodes = m; names = one.sub.names }; numbers = one.numbers }) gone
+      ∙ ap (λ (r : RunSub). record { sub = record { inodes = map.remove r.sub.inodes ino; names = r.sub.names }; numbers = r.numbers }) is
+      ∙ ap (λ k. record { sub = record { inodes = map.remove run.sub.inodes k; names = left }; numbers = run.numbers }) leads
+      ∙ sym (ap (λ b. record { sub = record { inodes = cond b (map.remove run.sub.inodes name.ino) run.sub.inodes; names = left }; numbers = run.numbers }) (eq-eqb (links_of left name.ino) 0 (sym counts ∙ none)))
 
   -- a name of an inode went that has others
   pub other_left : links ≢ 0 → one ≡ with_sub run (without_name run.sub name)
   other_left some =
       let left : List FlatName = remove_name name run.sub.names in
-      is ∙ sym (ap (λ b. record { sub = record { inodes = cond b (map.remove run.sub.inodes name.ino) run.sub.inodes; names = left }; marks = run.marks }) (ne_eqb (links_of left name.ino) 0 (λ none. some (counts ∙ none))))
+      is ∙ sym (ap (λ b. record { sub = record { inodes = cond b (map.remove run.sub.inodes name.ino) run.sub.inodes; names = left }; numbers = run.numbers }) (ne_eqb (links_of left name.ino) 0 (λ none. some (counts ∙ none))))
 
 drop_first : (names : List FlatName) (at : ℕ) → at < length names → (name : FlatName) × (drop at names ≡ name ∷ drop (suc at) names)
 drop_first [] at below = absurd (omega arith)

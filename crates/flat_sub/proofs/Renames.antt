@@ -61,7 +61,7 @@ module _ (run : RunSub) (old new : List (List ℕ)) where
   to = walk run.sub new
 
   abbrev next_index : ℕ
-  next_index = run.marks.last_index + 1
+  next_index = run.numbers.last_index + 1
 
   abbrev moved : List FlatName
   moved = names_without (without_entry run.sub to).names from
@@ -140,10 +140,10 @@ module _ (run : RunSub) (one two : List (List ℕ)) where
   second_end = walk run.sub two
 
   abbrev one_index : ℕ
-  one_index = run.marks.last_index + 1
+  one_index = run.numbers.last_index + 1
 
   abbrev two_index : ℕ
-  two_index = run.marks.last_index + 2
+  two_index = run.numbers.last_index + 2
 
   abbrev rest : List FlatName
   rest = names_without (names_without run.sub.names first_end) second_end
@@ -201,16 +201,16 @@ module _ (run : RunSub) (one two : List (List ℕ)) where
 
     -- the subvolume with these names and indexes
     abbrev exchanged : List FlatName → ℕ → FinMap nat_cmp ℕ → RunSub
-    exchanged names last indexes = record { sub = record { inodes = run.sub.inodes; names = names }; marks = record { last_ino = run.marks.last_ino; last_index = last; dir_indexes = indexes } }
+    exchanged names last indexes = record { sub = record { inodes = run.sub.inodes; names = names }; numbers = record { last_ino = run.numbers.last_ino; last_index = last; dir_indexes = indexes } }
 
-    greatest : two_index ≡ max (max run.marks.last_index one_index) two_index
+    greatest : two_index ≡ max (max run.numbers.last_index one_index) two_index
     greatest = omega arith
 
-    pub exchange_finishes : is_crowded after given ≡ false → is_crowded after other ≡ false → (next : RunSub) (indexes both : FinMap nat_cmp ℕ) → indexes ≡ noted_index run.marks.dir_indexes given.dir one_index → both ≡ noted_index indexes other.dir two_index → next ≡ exchanged after two_index both → ComesTo (exchange run one two one_index two_index) next Plain
+    pub exchange_finishes : is_crowded after given ≡ false → is_crowded after other ≡ false → (next : RunSub) (indexes both : FinMap nat_cmp ℕ) → indexes ≡ noted_index run.numbers.dir_indexes given.dir one_index → both ≡ noted_index indexes other.dir two_index → next ≡ exchanged after two_index both → ComesTo (exchange run one two one_index two_index) next Plain
     unfolding exchange
     exchange_finishes roomy also next indexes both indexes_are both_indexes next_is =
         finished run exchange_list exchange_end next Plain (answers_are ∙ ap (λ b. cond b (Some Collide) None) (two_fail _ _ roomy also))
         (next_is ∙ (λ i. exchanged (sym both_are i) (greatest i) ((both_indexes ∙ ap (λ m. noted_index m other.dir two_index) indexes_are) i))
-        ∙ (λ i. exchanged (add_name other (add_name given twice)) (max (max run.marks.last_index (ap (λ (n : FlatName). n.index) given_is i)) (ap (λ (n : FlatName). n.index) other_is i)) (noted_index (noted_index run.marks.dir_indexes given.dir (ap (λ (n : FlatName). n.index) given_is i)) other.dir (ap (λ (n : FlatName). n.index) other_is i)))
+        ∙ (λ i. exchanged (add_name other (add_name given twice)) (max (max run.numbers.last_index (ap (λ (n : FlatName). n.index) given_is i)) (ap (λ (n : FlatName). n.index) other_is i)) (noted_index (noted_index run.numbers.dir_indexes given.dir (ap (λ (n : FlatName). n.index) given_is i)) other.dir (ap (λ (n : FlatName). n.index) other_is i)))
         ∙ sym (λ i. (exchange_done run (rest_is i) (made_are i)).next))
         refl

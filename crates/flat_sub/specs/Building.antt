@@ -3,20 +3,20 @@ use Rattle.std.specs.Prelude.{ℕ, suc, Bool, true, false, List, [], ◌∷◌}
 use Rattle.std.specs.Ordering.{match_ordering}
 use Rattle.flat_model.specs.Records.{InodeRecord}
 use Rattle.flat_model.specs.Names.{FlatName, add_name, name_cmp}
-use Rattle.flat_model.specs.Volume.{RunSub, note_ino, note_name, bare_subvolume, bare_marks}
+use Rattle.flat_model.specs.Volume.{RunSub, note_ino, note_name, bare_subvolume, bare_numbers}
 use Rattle.flat_model.specs.Operations.{with_record}
 
 -- a subvolume with a further inode
 abbrev pub with_inode : ℕ → InodeRecord → RunSub → RunSub
-with_inode ino inode run = record { sub = with_record run.sub ino inode; marks = note_ino run.marks ino }
+with_inode ino inode run = record { sub = with_record run.sub ino inode; numbers = note_ino run.numbers ino }
 
 -- a subvolume with a further name
 abbrev pub with_name : FlatName → RunSub → RunSub
-with_name name run = record { sub = record { inodes = run.sub.inodes; names = add_name name run.sub.names }; marks = note_name run.marks name }
+with_name name run = record { sub = record { inodes = run.sub.inodes; names = add_name name run.sub.names }; numbers = note_name run.numbers name }
 
 -- a subvolume in its run with nothing but its root directory
 abbrev pub bare_run : RunSub
-bare_run = record { sub = bare_subvolume; marks = bare_marks }
+bare_run = record { sub = bare_subvolume; numbers = bare_numbers }
 
 -- where a name stands, or would stand, in a set of names: behind those below it
 abbrev pub place_in : FlatName → List FlatName → ℕ

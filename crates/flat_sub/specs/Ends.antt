@@ -38,11 +38,11 @@ next_end sub Blocked bytes = Blocked
 
 -- a subvolume in its run with these names
 abbrev pub with_names : RunSub → List FlatName → RunSub
-with_names run names = record { sub = record { inodes = run.sub.inodes; names = names }; marks = run.marks }
+with_names run names = record { sub = record { inodes = run.sub.inodes; names = names }; numbers = run.numbers }
 
 -- this subvolume in the run of another
 abbrev pub with_sub : RunSub → Subvolume → RunSub
-with_sub run sub = record { sub = sub; marks = run.marks }
+with_sub run sub = record { sub = sub; numbers = run.numbers }
 
 -- an operation comes to this: the subvolume in its run afterwards, and the answer
 pub record ComesTo (outcome : Outcome) (after : RunSub) (said : Answer) : Type 0 where

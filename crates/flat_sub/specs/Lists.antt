@@ -29,7 +29,7 @@ share_of (items.Entry dir hash) name = cond (nat_eq name.dir dir && nat_eq (name
 abbrev pub settled : RunSub → List FlatName → ℕ → ℕ → RunSub
 settled run names dir index = record {
   sub = record { inodes = run.sub.inodes; names = names };
-  marks = record run.marks { last_index = max run.marks.last_index index; dir_indexes = insert run.marks.dir_indexes dir (max (last_index_in run.marks dir) index) };
+  numbers = record run.numbers { last_index = max run.numbers.last_index index; dir_indexes = insert run.numbers.dir_indexes dir (max (last_index_in run.numbers dir) index) };
 }
 
 -- the last name of a path, and none of the root directory's

@@ -22,7 +22,7 @@ rename_tests run old new from to =
     ∷ (not (is_root to) && (is_other_there moved && is_dir_there target), IsDir)
     ∷ (not (is_root to) && (is_dir_there target && has_entries run.sub (ino_at to)), NotEmpty)
     ∷ (is_root from || (is_root to || (is_dir_there moved && is_below old new)), Loop)
-    ∷ (indexes_are_spent run.marks, TooLarge)
+    ∷ (indexes_are_spent run.numbers, TooLarge)
     ∷ []
 
 -- the rows of exchange before the one on crowded items
@@ -32,7 +32,7 @@ exchange_tests run one two first second =
     ∷ (is_blocked first || is_blocked second, NotDir)
     ∷ (is_one_inode first second, Plain)
     ∷ (is_root first || (is_root second || (is_below one two || is_below two one)), Loop)
-    ∷ (indexes_are_spent run.marks, TooLarge)
+    ∷ (indexes_are_spent run.numbers, TooLarge)
     ∷ []
 
 -- whether the name in the slot at the end of a walk leads to this inode

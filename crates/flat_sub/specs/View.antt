@@ -21,7 +21,7 @@ names_view (at ∷ ats) (near ∷ nears) = name_view at near ∷ names_view ats 
 abbrev pub sub_view : FlatSub → RunSub
 sub_view sub = record {
   sub = record { inodes = from_entries sub.inodes.items; names = names_view sub.names.items sub.near.items };
-  marks = record { last_ino = sub.last_ino; last_index = sub.last_index; dir_indexes = from_entries sub.dir_indexes.items };
+  numbers = record { last_ino = sub.last_ino; last_index = sub.last_index; dir_indexes = from_entries sub.dir_indexes.items };
 }
 
 -- What holds of a subvolume at all times: the names are a set in order, each with its mark; the inodes and the greatest
@@ -31,6 +31,6 @@ pub record IsWellKept (sub : FlatSub) : Type 0 where
   pub in_order : IsTrue (is_name_set (names_view sub.names.items sub.near.items))
   pub inodes_rise : IsTrue (is_sorted nat_cmp sub.inodes.items)
   pub indexes_rise : IsTrue (is_sorted nat_cmp sub.dir_indexes.items)
-  pub covered : (dir : ℕ) → last_index_in (sub_view sub).marks dir ≤ sub.last_index
+  pub covered : (dir : ℕ) → last_index_in (sub_view sub).numbers dir ≤ sub.last_index
   pub least : 1 ≤ sub.last_index
-  pub each_least : (dir : ℕ) → 1 ≤ last_index_in (sub_view sub).marks dir
+  pub each_least : (dir : ℕ) → 1 ≤ last_index_in (sub_view sub).numbers dir

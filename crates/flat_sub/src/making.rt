@@ -33,14 +33,14 @@ pub(crate) fn last_name(alloc: Global, path: &Path) -> Result<Name, OutOfMemory>
 impl FlatSub {
     /// Whether the subvolume has had an inode number of 2^62 or above.
     fn inos_are_spent(&self) -> bool
-        ensures { result ≡ inos_are_spent (sub_view self.now).marks }
+        ensures { result ≡ inos_are_spent (sub_view self.now).numbers }
     {
         self.last_ino >= SPENT
     }
 
     /// Whether the subvolume has had an index of 2^62 or above.
     pub(crate) fn indexes_are_spent(&self) -> bool
-        ensures { result ≡ indexes_are_spent (sub_view self.now).marks }
+        ensures { result ≡ indexes_are_spent (sub_view self.now).numbers }
     {
         self.last_index >= SPENT
     }

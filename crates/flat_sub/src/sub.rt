@@ -42,15 +42,15 @@ pub(crate) fn place_among(
     at: &NameAt,
     near: bool,
     names: &Vec<NameAt>,
-    marks: &Vec<bool>,
+    nears: &Vec<bool>,
 ) -> (usize, bool)
-    requires { vec_len marks.now ≡ vec_len names.now }
-    ensures place { result.0 ≡ place_in (name_view at.now near) (names_view names.now.items marks.now.items) }
-    ensures there { result.1 ≡ has_name (name_view at.now near) (names_view names.now.items marks.now.items) }
+    requires { vec_len nears.now ≡ vec_len names.now }
+    ensures place { result.0 ≡ place_in (name_view at.now near) (names_view names.now.items nears.now.items) }
+    ensures there { result.1 ≡ has_name (name_view at.now near) (names_view names.now.items nears.now.items) }
 {
     let mut place = 0;
     while place < names.len() {
-        match compare(at, near, &names[place], marks[place]) {
+        match compare(at, near, &names[place], nears[place]) {
             Ordering::Less => return (place, false),
             Ordering::Equal => return (place, true),
             Ordering::Greater => {}
@@ -62,14 +62,14 @@ pub(crate) fn place_among(
 
 /// Adds a name with its mark in its place among others in order; one that is there stays. Takes no memory where both
 /// lists have room for one more.
-pub(crate) fn add_among(at: NameAt, near: bool, names: &mut Vec<NameAt>, marks: &mut Vec<bool>)
-    requires marked { vec_len marks.old ≡ vec_len names.old }
+pub(crate) fn add_among(at: NameAt, near: bool, names: &mut Vec<NameAt>, nears: &mut Vec<bool>)
+    requires marked { vec_len nears.old ≡ vec_len names.old }
     requires room { vec_len names.old < vec_capacity names.old }
-    requires mark_room { vec_len marks.old < vec_capacity marks.old }
-    ensures added { names_view names.new.items marks.new.items ≡ add_name (name_view at near) (names_view names.old.items marks.old.items) }
-    ensures marked { vec_len marks.new ≡ vec_len names.new }
+    requires mark_room { vec_len nears.old < vec_capacity nears.old }
+    ensures added { names_view names.new.items nears.new.items ≡ add_name (name_view at near) (names_view names.old.items nears.old.items) }
+    ensures marked { vec_len nears.new ≡ vec_len names.new }
 {
-    let (place, there) = place_among(&at, near, names, marks);
+    let (place, there) = place_among(&at, near, names, nears);
     if there {
         return;
     }
@@ -77,7 +77,7 @@ pub(crate) fn add_among(at: NameAt, near: bool, names: &mut Vec<NameAt>, marks: 
         Ok(()) => {}
         Err(_) => unreachable!(),
     }
-    match marks.insert(place, near) {
+    match nears.insert(place, near) {
         Ok(()) => {}
         Err(_) => unreachable!(),
     }

@@ -8,7 +8,7 @@ use Rattle.std.specs.FinMap.Entries.{put}
 use Rattle.std.proofs.lemmas.List.FromFn.{map-range_with_len_more}
 use Rattle.flat_model.specs.declared.view.NameAt.{NameAt}
 use Rattle.flat_model.specs.Records.{InodeRecord, new_dir}
-use Rattle.flat_model.specs.Volume.{Subvolume, RunSub, bare_subvolume, bare_volume, bare_marks, marks_at_mount, mounted, subvolume_ids, note_ino}
+use Rattle.flat_model.specs.Volume.{Subvolume, RunSub, bare_subvolume, bare_volume, bare_numbers, numbers_at_mount, mounted, subvolume_ids, note_ino}
 use Rattle.flat_sub.specs.Building.{bare_run}
 use Rattle.flat_model.specs.Unmarked.{unmarked}
 use Rattle.std.specs.Bool.{nat_eq}
@@ -24,9 +24,9 @@ empty_entries m e = no_length (entries m) (sym (len-entries m) ∙ ap len e ∙ 
 bare_keys : keys (bare_subvolume.inodes) ≡ 256 ∷ []
 bare_keys = ap (map (λ (e : ℕ × InodeRecord). e.0)) (entries-insert nat_cmp_total empty 256 new_dir ∙ ap (put nat_cmp 256 new_dir) (empty_entries empty refl))
 
-pub bare_marks_at_mount : marks_at_mount bare_subvolume ≡ bare_marks
-unfolding marks_at_mount
-bare_marks_at_mount = ap (fold note_ino bare_marks) bare_keys
+pub bare_numbers_at_mount : numbers_at_mount bare_subvolume ≡ bare_numbers
+unfolding numbers_at_mount
+bare_numbers_at_mount = ap (fold note_ino bare_numbers) bare_keys
 
 abbrev pub bare_entry : ℕ → ℕ × RunSub
 bare_entry id = (id, bare_run)
@@ -39,18 +39,18 @@ abbrev bare_pair : ℕ → ℕ × Subvolume
 bare_pair id = (id, bare_subvolume)
 
 abbrev mount_pair : ℕ × Subvolume → ℕ × RunSub
-mount_pair e = (e.0, record { sub = e.1; marks = marks_at_mount e.1 })
+mount_pair e = (e.0, record { sub = e.1; numbers = numbers_at_mount e.1 })
 
 -- the entries of bare subvolumes at the mount
 pub bare_mounted : (count : ℕ) → mounted (bare_volume count) ≡ from_entries {R = nat_cmp} (listed count)
 bare_mounted count = same_map nat_cmp_total nat_cmp-IsAntisymmetric _ _ (λ q.
     get_mounted (bare_volume count) q
-    ∙ sym (get_seen (λ (sub : Subvolume). record { sub = sub; marks = marks_at_mount sub }) (map bare_pair (subvolume_ids count)) q)
+    ∙ sym (get_seen (λ (sub : Subvolume). record { sub = sub; numbers = numbers_at_mount sub }) (map bare_pair (subvolume_ids count)) q)
     ∙ ap (λ es. get (from_entries {R = nat_cmp} es) q) (twice (subvolume_ids count)))
   where
     twice : (ids : List ℕ) → map mount_pair (map bare_pair ids) ≡ map bare_entry ids
     twice [] = refl
-    twice (id ∷ ids) = λ i. (id, record { sub = bare_subvolume; marks = bare_marks_at_mount i }) ∷ twice ids i
+    twice (id ∷ ids) = λ i. (id, record { sub = bare_subvolume; numbers = bare_numbers_at_mount i }) ∷ twice ids i
 
 range_more : (a n : ℕ) → range_with_len a (n + 1) ≡ range_with_len a n ++ (a + n) ∷ []
 range_more a n = sym (same (range_with_len a (n + 1))) ∙ map-range_with_len_more (λ (k : ℕ). k) a n (a + n) refl ∙ ap (λ xs. xs ++ (a + n) ∷ []) (same (range_with_len a n))

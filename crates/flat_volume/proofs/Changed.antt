@@ -10,7 +10,7 @@ use Rattle.flat_model.specs.declared.answer.Answer.{Answer}
 use Rattle.flat_model.specs.declared.op.Op.{Op}
 use Rattle.flat_model.specs.Records.{InodeRecord}
 use Rattle.flat_model.specs.Names.{FlatName}
-use Rattle.flat_model.specs.Volume.{SubMarks, RunSub, RunVolume}
+use Rattle.flat_model.specs.Volume.{RunNumbers, RunSub, RunVolume}
 use Rattle.flat_model.specs.Step.{place_of}
 use Rattle.flat_model.proofs.Maps.{insert_same}
 use Rattle.flat_record.proofs.Tables.{position_first, position_none, position_below, find_first, find_nowhere, map_set}
@@ -32,28 +32,28 @@ module _ {X : Type 0} (es : List (ℕ × X)) (key : ℕ) where
   pub entry_nowhere : position (λ (e : ℕ × X). e.0 == key) es ≡ None → get (from_entries {R = nat_cmp} es) key ≡ None
   entry_nowhere none = get-from_entries nat_cmp_total es key ∙ find_nowhere key es (position_none _ es none)
 
-abbrev run_of : List (ℕ × InodeRecord) → List FlatName → SubMarks → RunSub
-run_of es names marks = record { sub = record { inodes = from_entries es; names = names }; marks = marks }
+abbrev run_of : List (ℕ × InodeRecord) → List FlatName → RunNumbers → RunSub
+run_of es names numbers = record { sub = record { inodes = from_entries es; names = names }; numbers = numbers }
 
 -- another record in place of one
-pub inode_set : (es : List (ℕ × InodeRecord)) (names : List FlatName) (marks : SubMarks) (i key : ℕ) (lent : ℕ × InodeRecord) (inode : InodeRecord) (change : InodeRecord → InodeRecord)
-    → position (λ (e : ℕ × InodeRecord). e.0 == key) es ≡ Some i → lent ≡ get_or es i lent → inode ≡ change lent.1 → run_of (set es i (lent.0, inode)) names marks ≡ at_inode key change (run_of es names marks)
-inode_set es names marks i key lent inode change at is changed =
+pub inode_set : (es : List (ℕ × InodeRecord)) (names : List FlatName) (numbers : RunNumbers) (i key : ℕ) (lent : ℕ × InodeRecord) (inode : InodeRecord) (change : InodeRecord → InodeRecord)
+    → position (λ (e : ℕ × InodeRecord). e.0 == key) es ≡ Some i → lent ≡ get_or es i lent → inode ≡ change lent.1 → run_of (set es i (lent.0, inode)) names numbers ≡ at_inode key change (run_of es names numbers)
+inode_set es names numbers i key lent inode change at is changed =
     let key_is : lent.0 ≡ key = ap (λ (e : ℕ × InodeRecord). e.0) is ∙ key_at key es i lent (position_first _ es i at) in
-    let run : RunSub = run_of es names marks in
-    ap (λ k. run_of (set es i (k, inode)) names marks) key_is
-    ∙ ap (λ inodes. record { sub = record { inodes = inodes; names = names }; marks = marks }) (map_set key inode es i at)
-    ∙ ap (λ made. record { sub = record { inodes = insert (from_entries es) key made; names = names }; marks = marks }) changed
-    ∙ sym (ap (λ o. elim o [ None ↦ run | Some here ↦ record { sub = record { inodes = insert (from_entries es) key (change here); names = names }; marks = marks } ]) (entry_at es key i lent at is))
+    let run : RunSub = run_of es names numbers in
+    ap (λ k. run_of (set es i (k, inode)) names numbers) key_is
+    ∙ ap (λ inodes. record { sub = record { inodes = inodes; names = names }; numbers = numbers }) (map_set key inode es i at)
+    ∙ ap (λ made. record { sub = record { inodes = insert (from_entries es) key made; names = names }; numbers = numbers }) changed
+    ∙ sym (ap (λ o. elim o [ None ↦ run | Some here ↦ record { sub = record { inodes = insert (from_entries es) key (change here); names = names }; numbers = numbers } ]) (entry_at es key i lent at is))
 
 -- the same record in place of one
-pub inode_same : (es : List (ℕ × InodeRecord)) (names : List FlatName) (marks : SubMarks) (i key : ℕ) (lent : ℕ × InodeRecord) (inode : InodeRecord)
-    → position (λ (e : ℕ × InodeRecord). e.0 == key) es ≡ Some i → lent ≡ get_or es i lent → inode ≡ lent.1 → run_of (set es i (lent.0, inode)) names marks ≡ run_of es names marks
-inode_same es names marks i key lent inode at is same =
-    let run : RunSub = run_of es names marks in
-    inode_set es names marks i key lent inode (λ here. here) at is same
-    ∙ ap (λ o. elim o [ None ↦ run | Some here ↦ record { sub = record { inodes = insert (from_entries es) key here; names = names }; marks = marks } ]) (entry_at es key i lent at is)
-    ∙ ap (λ inodes. record { sub = record { inodes = inodes; names = names }; marks = marks }) (insert_same (from_entries es) key lent.1 (entry_at es key i lent at is))
+pub inode_same : (es : List (ℕ × InodeRecord)) (names : List FlatName) (numbers : RunNumbers) (i key : ℕ) (lent : ℕ × InodeRecord) (inode : InodeRecord)
+    → position (λ (e : ℕ × InodeRecord). e.0 == key) es ≡ Some i → lent ≡ get_or es i lent → inode ≡ lent.1 → run_of (set es i (lent.0, inode)) names numbers ≡ run_of es names numbers
+inode_same es names numbers i key lent inode at is same =
+    let run : RunSub = run_of es names numbers in
+    inode_set es names numbers i key lent inode (λ here. here) at is same
+    ∙ ap (λ o. elim o [ None ↦ run | Some here ↦ record { sub = record { inodes = insert (from_entries es) key here; names = names }; numbers = numbers } ]) (entry_at es key i lent at is)
+    ∙ ap (λ inodes. record { sub = record { inodes = inodes; names = names }; numbers = numbers }) (insert_same (from_entries es) key lent.1 (entry_at es key i lent at is))
 
 -- the record of an inode in a subvolume that is there, and in none
 pub record_there : (run : RunVolume) (id ino : ℕ) (sub : RunSub) → get run id ≡ Some sub → record_in run id ino ≡ get sub.sub.inodes ino

@@ -7,7 +7,7 @@ use Rattle.std.specs.FinMap.{FinMap, get, empty, insert, entries, keys, put, ent
 use Rattle.std.specs.FinMap.Entries.{by_order}
 use Rattle.flat_model.specs.Names.{FlatName, add_name, name_cmp}
 use Rattle.flat_model.specs.Records.{InodeRecord, new_dir}
-use Rattle.flat_model.specs.Volume.{SubMarks, RunSub, note_name, note_ino, marks_at_mount, bare_marks, bare_subvolume}
+use Rattle.flat_model.specs.Volume.{RunNumbers, RunSub, note_name, note_ino, numbers_at_mount, bare_numbers, bare_subvolume}
 use Rattle.flat_model.proofs.Maps.{get_insert_same, get_insert_other}
 use Rattle.flat_model.proofs.NameSets.{name_cmp_antisymmetric}
 use Rattle.flat_sub.specs.Building.{bare_run, with_inode, with_name}
@@ -73,23 +73,23 @@ note_twice m d i = same_map nat_cmp_total nat_cmp-IsAntisymmetric _ _ (λ q. eli
   | inr other ↦ note_elsewhere (note m d i) d i q other
 ])
 
-names_swap : (m : SubMarks) (a b : FlatName) → note_name (note_name m a) b ≡ note_name (note_name m b) a
+names_swap : (m : RunNumbers) (a b : FlatName) → note_name (note_name m a) b ≡ note_name (note_name m b) a
 names_swap m a b =
     let index : max (max m.last_index a.index) b.index ≡ max (max m.last_index b.index) a.index = omega arith in
     λ i. record { last_ino = m.last_ino; last_index = index i; dir_indexes = notes_swap m.dir_indexes a.dir a.index b.dir b.index i }
 
-name_twice : (m : SubMarks) (a : FlatName) → note_name (note_name m a) a ≡ note_name m a
+name_twice : (m : RunNumbers) (a : FlatName) → note_name (note_name m a) a ≡ note_name m a
 name_twice m a =
     let index : max (max m.last_index a.index) a.index ≡ max m.last_index a.index = omega arith in
     λ i. record { last_ino = m.last_ino; last_index = index i; dir_indexes = note_twice m.dir_indexes a.dir a.index i }
 
 -- a name that is noted first may be noted last
-name_last : (m : SubMarks) (a : FlatName) (names : List FlatName) → fold note_name (note_name m a) names ≡ note_name (fold note_name m names) a
+name_last : (m : RunNumbers) (a : FlatName) (names : List FlatName) → fold note_name (note_name m a) names ≡ note_name (fold note_name m names) a
 name_last m a [] = refl
 name_last m a (b ∷ names) = ap (λ x. fold note_name x names) (names_swap m a b) ∙ name_last (note_name m b) a names
 
 -- the numbers of a set with a name more
-names_added : (m : SubMarks) (a : FlatName) (names : List FlatName) → fold note_name m (add_name a names) ≡ note_name (fold note_name m names) a
+names_added : (m : RunNumbers) (a : FlatName) (names : List FlatName) → fold note_name m (add_name a names) ≡ note_name (fold note_name m names) a
 names_added m a [] = refl
 names_added m a (b ∷ names) = go (names_added (note_name m b) a names) (name_cmp a b) refl
   where
@@ -102,14 +102,14 @@ names_added m a (b ∷ names) = go (names_added (note_name m b) a names) (name_c
 
 -- ---- inodes
 
-ino_last : (m : SubMarks) (k : ℕ) (inos : List ℕ) → fold note_ino (note_ino m k) inos ≡ note_ino (fold note_ino m inos) k
+ino_last : (m : RunNumbers) (k : ℕ) (inos : List ℕ) → fold note_ino (note_ino m k) inos ≡ note_ino (fold note_ino m inos) k
 ino_last m k [] = refl
 ino_last m k (j ∷ inos) =
     let swap : max (max m.last_ino k) j ≡ max (max m.last_ino j) k = omega arith in
     let both : note_ino (note_ino m k) j ≡ note_ino (note_ino m j) k = λ i. record { last_ino = swap i; last_index = m.last_index; dir_indexes = m.dir_indexes } in
     ap (λ x. fold note_ino x inos) both ∙ ino_last (note_ino m j) k inos
 
-inos_put : (m : SubMarks) (k : ℕ) (v : InodeRecord) (es : List (ℕ × InodeRecord)) → fold note_ino m (map (λ (e : ℕ × InodeRecord). e.0) (put nat_cmp k v es)) ≡ note_ino (fold note_ino m (map (λ (e : ℕ × InodeRecord). e.0) es)) k
+inos_put : (m : RunNumbers) (k : ℕ) (v : InodeRecord) (es : List (ℕ × InodeRecord)) → fold note_ino m (map (λ (e : ℕ × InodeRecord). e.0) (put nat_cmp k v es)) ≡ note_ino (fold note_ino m (map (λ (e : ℕ × InodeRecord). e.0) es)) k
 inos_put m k v [] = refl
 inos_put m k v (e ∷ es) = go (inos_put (note_ino m e.0) k v es) (nat_cmp k e.0) refl
   where
@@ -128,25 +128,25 @@ inos_put m k v (e ∷ es) = go (inos_put (note_ino m e.0) k v es) (nat_cmp k e.0
 
 -- its numbers are those at its mount
 abbrev pub IsBegun : RunSub → Type 0
-IsBegun run = run.marks ≡ marks_at_mount run.sub
+IsBegun run = run.numbers ≡ numbers_at_mount run.sub
 
 pub begun_name : (run : RunSub) (name : FlatName) → IsBegun run → IsBegun (with_name name run)
-unfolding marks_at_mount
-begun_name run name begun = ap (λ m. note_name m name) begun ∙ sym (names_added (fold note_ino bare_marks (keys run.sub.inodes)) name run.sub.names)
+unfolding numbers_at_mount
+begun_name run name begun = ap (λ m. note_name m name) begun ∙ sym (names_added (fold note_ino bare_numbers (keys run.sub.inodes)) name run.sub.names)
 
-names_of_inodes : (m : SubMarks) (k : ℕ) (names : List FlatName) → note_ino (fold note_name m names) k ≡ fold note_name (note_ino m k) names
+names_of_inodes : (m : RunNumbers) (k : ℕ) (names : List FlatName) → note_ino (fold note_name m names) k ≡ fold note_name (note_ino m k) names
 names_of_inodes m k [] = refl
 names_of_inodes m k (name ∷ names) = names_of_inodes (note_name m name) k names
 
 pub begun_inode : (run : RunSub) (ino : ℕ) (inode : InodeRecord) → IsBegun run → IsBegun (with_inode ino inode run)
-unfolding marks_at_mount
+unfolding numbers_at_mount
 begun_inode run ino inode begun =
-    let all = sym (ap (λ es. fold note_ino bare_marks (map (λ (e : ℕ × InodeRecord). e.0) es)) (entries-insert nat_cmp_total run.sub.inodes ino inode) ∙ inos_put bare_marks ino inode (entries run.sub.inodes)) in
-    ap (λ m. note_ino m ino) begun ∙ names_of_inodes (fold note_ino bare_marks (keys run.sub.inodes)) ino run.sub.names ∙ ap (λ m. fold note_name m run.sub.names) all
+    let all = sym (ap (λ es. fold note_ino bare_numbers (map (λ (e : ℕ × InodeRecord). e.0) es)) (entries-insert nat_cmp_total run.sub.inodes ino inode) ∙ inos_put bare_numbers ino inode (entries run.sub.inodes)) in
+    ap (λ m. note_ino m ino) begun ∙ names_of_inodes (fold note_ino bare_numbers (keys run.sub.inodes)) ino run.sub.names ∙ ap (λ m. fold note_name m run.sub.names) all
 
 -- a bare one
 pub begun_bare : IsBegun bare_run
-unfolding marks_at_mount
+unfolding numbers_at_mount
 begun_bare =
     let keys_are : keys (bare_subvolume.inodes) ≡ 256 ∷ [] = ap (map (λ (e : ℕ × InodeRecord). e.0)) (entries-insert nat_cmp_total empty 256 new_dir ∙ ap (put nat_cmp 256 new_dir) (entries_empty nat_cmp)) in
-    sym (ap (fold note_ino bare_marks) keys_are)
+    sym (ap (fold note_ino bare_numbers) keys_are)

@@ -10,7 +10,7 @@ use Rattle.flat_model.specs.declared.view.Kind.TheVariants.{File}
 use Rattle.flat_model.specs.Names.{FlatName}
 use Rattle.flat_model.specs.Operations.{with_record}
 use Rattle.flat_model.specs.Records.{Blocks, InodeRecord, FileInode, kind_of}
-use Rattle.flat_model.specs.Volume.{Subvolume, RunSub, RunVolume, bare_subvolume, bare_volume, marks_at_mount, mounted, volume_of}
+use Rattle.flat_model.specs.Volume.{Subvolume, RunSub, RunVolume, bare_subvolume, bare_volume, numbers_at_mount, mounted, volume_of}
 use Rattle.flat_model.specs.Coherent.{IsCoherent, IsCoherentVolume}
 use Rattle.flat_model.proofs.Maps.{get_insert_same, get_insert_other}
 use Rattle.flat_sub.specs.Building.{bare_run, with_inode, with_name}
@@ -64,9 +64,9 @@ changed_alone volume change alone =
 pub bare_alone : mounted (bare_volume 1) ≡ lone bare_run
 unfolding mounted
 bare_alone =
-    ap (λ es. from_entries {R = nat_cmp} (map (λ (entry : ℕ × Subvolume). (entry.0, record { sub = entry.1; marks = marks_at_mount entry.1 })) es)) (bare_volume_entries 1)
-    ∙ from_one 5 (record { sub = bare_subvolume; marks = marks_at_mount bare_subvolume })
-    ∙ ap (λ m. lone (record { sub = bare_subvolume; marks = m })) (sym begun_bare)
+    ap (λ es. from_entries {R = nat_cmp} (map (λ (entry : ℕ × Subvolume). (entry.0, record { sub = entry.1; numbers = numbers_at_mount entry.1 })) es)) (bare_volume_entries 1)
+    ∙ from_one 5 (record { sub = bare_subvolume; numbers = numbers_at_mount bare_subvolume })
+    ∙ ap (λ m. lone (record { sub = bare_subvolume; numbers = m })) (sym begun_bare)
 
 pub alone_of : (run : RunSub) → volume_of (lone run) ≡ insert empty 5 run.sub
 unfolding volume_of
@@ -78,9 +78,9 @@ alone_entries run = ap entries (alone_of run) ∙ one_entry 5 run.sub
 pub begun_alone : (run : RunSub) → IsBegun run → lone run ≡ mounted (volume_of (lone run))
 unfolding mounted
 begun_alone run begun =
-    sym (ap (λ es. from_entries {R = nat_cmp} (map (λ (entry : ℕ × Subvolume). (entry.0, record { sub = entry.1; marks = marks_at_mount entry.1 })) es)) (alone_entries run)
-    ∙ from_one 5 (record { sub = run.sub; marks = marks_at_mount run.sub })
-    ∙ ap (λ m. lone (record { sub = run.sub; marks = m })) (sym begun))
+    sym (ap (λ es. from_entries {R = nat_cmp} (map (λ (entry : ℕ × Subvolume). (entry.0, record { sub = entry.1; numbers = numbers_at_mount entry.1 })) es)) (alone_entries run)
+    ∙ from_one 5 (record { sub = run.sub; numbers = numbers_at_mount run.sub })
+    ∙ ap (λ m. lone (record { sub = run.sub; numbers = m })) (sym begun))
 
 -- it is coherent where its subvolume is
 pub coherent_alone : (run : RunSub) → IsCoherent run.sub → IsCoherentVolume (volume_of (lone run))
@@ -137,7 +137,7 @@ module _ (old mid : RunVolume) (ino size : ℕ) (alone : IsLone old) (made : mid
       is ∙ changed_alone mid (at_inode ino (with_block 0 bytes)) mid_alone
       ∙ ap (λ r. lone (at_inode ino (with_block 0 bytes) r)) mid_run
       ∙ ap (λ (o : Option InodeRecord). lone (elim o as (λ _. RunSub) [ None ↦ m | Some inode ↦ record m { sub = with_record m.sub ino (with_block 0 bytes inode) } ])) (get_insert_same (run_of old).sub.inodes ino (bare_file size))
-      ∙ ap (λ inodes. lone (record { sub = record { inodes = inodes; names = (run_of old).sub.names }; marks = m.marks })) (insert_twice (run_of old).sub.inodes ino (bare_file size) full)
+      ∙ ap (λ inodes. lone (record { sub = record { inodes = inodes; names = (run_of old).sub.names }; numbers = m.numbers })) (insert_twice (run_of old).sub.inodes ino (bare_file size) full)
       ∙ (λ i. lone (with_inode (sym is_ino i) (FileInode (record { attributes = empty; size = sym is_size i; blocks = sym (block_read blocks file.block read) i })) (run_of old)))
     where
       m : RunSub

@@ -2,7 +2,7 @@
 ghost use Rattle.std.specs.Prelude.{◌≡◌, ℕ, List, Some, Contains};
 ghost use Rattle.blk_base.specs.Leaf.{Item};
 ghost use Rattle.flat_model.specs.Coherent.{IsCoherent};
-ghost use Rattle.flat_model.specs.Volume.{Subvolume, marks_at_mount};
+ghost use Rattle.flat_model.specs.Volume.{Subvolume, numbers_at_mount};
 ghost use Rattle.volume_image.specs.Tree.{ItemsRise};
 ghost use Rattle.volume_image.specs.Subvolume.{AreItemsOf, Data, data_addresses};
 ghost use Rattle.leaf_items.specs.Found.{AreFirstBlocks};
@@ -13,7 +13,7 @@ ghost use Rattle.leaf_items.specs.Passing.{HasData, IsLeafOf};
 /// What is built of the files and the names that rising items say is as at its mount, and is the one coherent subvolume
 /// of small files that the items can be of (own).
 pub fn leaf_has_one_candidate()
-    ensures begun { (items : List Item) (blocks : Data) → (candidate items blocks).marks ≡ marks_at_mount (candidate items blocks).sub }
+    ensures begun { (items : List Item) (blocks : Data) → (candidate items blocks).numbers ≡ numbers_at_mount (candidate items blocks).sub }
     ensures only { (items : List Item) (blocks : Data) (sub : Subvolume) → ItemsRise items → AreItemsOf items blocks sub → IsCoherent sub → IsSmallSub sub
         → sub ≡ (candidate items blocks).sub }
 {}

@@ -8,29 +8,29 @@ use Rattle.flat_sub.proofs.sub.add_among.Goals as goal
 
 pub returns-then-there-clause-added : goal.returns-then-there-clause-added
 returns-then-there-clause-added c =
-    sym (add_present (name_view c.args.at c.args.near) (names_view c.args.names.now.items c.args.marks.now.items) (sym c.place_among-place.ensures.there ∙ c.if-there.true))
+    sym (add_present (name_view c.args.at c.args.near) (names_view c.args.names.now.items c.args.nears.now.items) (sym c.place_among-place.ensures.there ∙ c.if-there.true))
 
 pub insert-requires : goal.insert-requires
 insert-requires c =
-    let all : List FlatName = names_view c.args.names.now.items c.args.marks.now.items in
+    let all : List FlatName = names_view c.args.names.now.items c.args.nears.now.items in
     let within = place_within (name_view c.args.at c.args.near) all in
-    let long = length_view c.args.names.now.items c.args.marks.now.items (omega (arith, c.requires.marked, c.args.names.now.ok.0, c.args.marks.now.ok.0)) in
+    let long = length_view c.args.names.now.items c.args.nears.now.items (omega (arith, c.requires.marked, c.args.names.now.ok.0, c.args.nears.now.ok.0)) in
     omega (arith, within, long, c.place_among-place.ensures.place, c.args.names.now.ok.0)
 
 pub insert-requires-2 : goal.insert-requires-2
 insert-requires-2 c =
-    let all : List FlatName = names_view c.args.names.now.items c.args.marks.now.items in
+    let all : List FlatName = names_view c.args.names.now.items c.args.nears.now.items in
     let within = place_within (name_view c.args.at c.args.near) all in
-    let long = length_view c.args.names.now.items c.args.marks.now.items (omega (arith, c.requires.marked, c.args.names.now.ok.0, c.args.marks.now.ok.0)) in
+    let long = length_view c.args.names.now.items c.args.nears.now.items (omega (arith, c.requires.marked, c.args.names.now.ok.0, c.args.nears.now.ok.0)) in
     omega (arith, within, long, c.place_among-place.ensures.place, c.args.names.now.ok.0, c.requires.marked)
 
 pub returns-clause-added : goal.returns-clause-added
 returns-clause-added c =
     let ats = c.args.names.now.items in
-    let nears = c.args.marks.now.items in
+    let nears = c.args.nears.now.items in
     let all : List FlatName = names_view ats nears in
     let new : FlatName = name_view c.args.at c.args.near in
-    let same : length nears ≡ length ats = omega (arith, c.requires.marked, c.args.names.now.ok.0, c.args.marks.now.ok.0) in
+    let same : length nears ≡ length ats = omega (arith, c.requires.marked, c.args.names.now.ok.0, c.args.nears.now.ok.0) in
     let within = place_within new all in
     let long = length_view ats nears same in
     let place = c.place_among-place.result.0 in

@@ -16,13 +16,13 @@ pub returns-clause-ok : goal.returns-clause-ok
 returns-clause-ok c =
     let run : RunSub = sub_view c.args.sub.now in
     on_ok c.set_attribute.result (λ put.
-    inode_set c.args.sub.now.inodes.items run.sub.names run.marks c.in-Some.at c.args.ino c.index_mut-entry.result.now c.set_attribute.new.self (with_attribute c.args.name.now c.args.value.now) (sym c.in-Some.ensures) c.index_mut-entry.ensures.value put) c.set_attribute.ensures.ok
+    inode_set c.args.sub.now.inodes.items run.sub.names run.numbers c.in-Some.at c.args.ino c.index_mut-entry.result.now c.set_attribute.new.self (with_attribute c.args.name.now c.args.value.now) (sym c.in-Some.ensures) c.index_mut-entry.ensures.value put) c.set_attribute.ensures.ok
 
 pub returns-clause-err : goal.returns-clause-err
 returns-clause-err c =
     let run : RunSub = sub_view c.args.sub.now in
     on_err c.set_attribute.result (λ same.
-    inode_same c.args.sub.now.inodes.items run.sub.names run.marks c.in-Some.at c.args.ino c.index_mut-entry.result.now c.set_attribute.new.self (sym c.in-Some.ensures) c.index_mut-entry.ensures.value same) c.set_attribute.ensures.err
+    inode_same c.args.sub.now.inodes.items run.sub.names run.numbers c.in-Some.at c.args.ino c.index_mut-entry.result.now c.set_attribute.new.self (sym c.in-Some.ensures) c.index_mut-entry.ensures.value same) c.set_attribute.ensures.err
 
 pub returns-clause-kept : goal.returns-clause-kept
 returns-clause-kept c =

@@ -22,13 +22,13 @@ pub returns-clause-ok : goal.returns-clause-ok
 returns-clause-ok c =
     let run : RunSub = sub_view c.args.sub.now in
     on_ok c.put_block.result (λ put.
-    inode_set c.args.sub.now.inodes.items run.sub.names run.marks c.in-Some.at c.args.ino c.index_mut-entry.result.now c.put_block.new.self (with_block c.args.number c.args.bytes.now) (sym c.in-Some.ensures) c.index_mut-entry.ensures.value put) c.put_block.ensures.ok
+    inode_set c.args.sub.now.inodes.items run.sub.names run.numbers c.in-Some.at c.args.ino c.index_mut-entry.result.now c.put_block.new.self (with_block c.args.number c.args.bytes.now) (sym c.in-Some.ensures) c.index_mut-entry.ensures.value put) c.put_block.ensures.ok
 
 pub returns-clause-err : goal.returns-clause-err
 returns-clause-err c =
     let run : RunSub = sub_view c.args.sub.now in
     on_err c.put_block.result (λ same.
-    inode_same c.args.sub.now.inodes.items run.sub.names run.marks c.in-Some.at c.args.ino c.index_mut-entry.result.now c.put_block.new.self (sym c.in-Some.ensures) c.index_mut-entry.ensures.value same) c.put_block.ensures.err
+    inode_same c.args.sub.now.inodes.items run.sub.names run.numbers c.in-Some.at c.args.ino c.index_mut-entry.result.now c.put_block.new.self (sym c.in-Some.ensures) c.index_mut-entry.ensures.value same) c.put_block.ensures.err
 
 pub returns-clause-kept : goal.returns-clause-kept
 returns-clause-kept c =

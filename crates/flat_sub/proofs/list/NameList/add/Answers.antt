@@ -10,6 +10,6 @@ returns-clause-kept c =
     let new : FlatName = name_view c.args.at c.args.near in
     let same : names_view c.reserve.new.self.items c.reserve-2.new.self.items ≡ before = λ i. names_view (c.reserve.ensures.items i) (c.reserve-2.ensures.items i) in
     record {
-      marked = omega (arith, c.add_among.ensures.marked, c.add_among.new.names.ok.0, c.add_among.new.marks.ok.0);
+      marked = omega (arith, c.add_among.ensures.marked, c.add_among.new.names.ok.0, c.add_among.new.nears.ok.0);
       in_order = ap is_name_set c.add_among.ensures.added ∙ is_name_set_add new _ (ap is_name_set same ∙ c.requires.in_order);
     }

@@ -9,5 +9,5 @@ returns-clause-ok c =
     let inodes = c.put_entry.ensures.map ∙ ap (λ es. insert (from_entries es) c.args.ino c.args.inode) c.reserve.ensures.items in
     λ i. record {
       sub = record { inodes = inodes i; names = names_view before.names.items before.near.items };
-      marks = record { last_ino = c.max-self.ensures i; last_index = before.last_index; dir_indexes = from_entries before.dir_indexes.items };
+      numbers = record { last_ino = c.max-self.ensures i; last_index = before.last_index; dir_indexes = from_entries before.dir_indexes.items };
     }

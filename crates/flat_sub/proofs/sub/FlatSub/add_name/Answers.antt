@@ -17,7 +17,7 @@ returns-clause-kept c =
     marked_more (from_entries c.args.self.now.dir_indexes.items) _ c.args.at.dir.0 c.args.at.index c.args.self.now.last_index c.max-greatest.result c.max-self.result (marked_of c.args.self.now c.requires)
     (c.put_entry.ensures.map ∙ ap (λ m. insert m c.args.at.dir.0 c.max-greatest.result) indexes) (search rules) (search rules) in
     record {
-      marked = omega (arith, c.add_among.ensures.marked, c.add_among.new.names.ok.0, c.add_among.new.marks.ok.0);
+      marked = omega (arith, c.add_among.ensures.marked, c.add_among.new.names.ok.0, c.add_among.new.nears.ok.0);
       in_order = ap is_name_set c.add_among.ensures.added ∙ is_name_set_add new _ (ap is_name_set same ∙ c.requires.in_order);
       inodes_rise = c.requires.inodes_rise;
       indexes_rise = c.put_entry.ensures.rising (ap (is_sorted nat_cmp) c.reserve-3.ensures.items ∙ c.requires.indexes_rise);

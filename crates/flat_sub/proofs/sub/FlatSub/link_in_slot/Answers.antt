@@ -86,5 +86,5 @@ returns-clause-done c =
     let before = c.args.self.now in
     let dir_indexes = ap from_entries c.reserve.ensures.items in
     link_finishes run c.args.old.now c.args.new.now c.args.dir c.requires.free absent met other few unspent c.in_ok-last_name.field-0 c.ino-ino.result c.in_ok-near.near (list_view c.in_ok-list.list) (list_view c.make.new.self) (c.ino-ino.ensures names from c.requires.from) c.in_ok-last_name.ensures c.in_ok-list.ensures.same c.in_ok-near.ensures.near c.in_ok-near.ensures.added (sym c.is_crowded.ensures ∙ c.if-is_crowded.false) _ (sub_view c.settle.new.self)
-    (λ i. record { sub = run.sub; marks = record { last_ino = before.last_ino; last_index = before.last_index; dir_indexes = dir_indexes i } })
+    (λ i. record { sub = run.sub; numbers = record { last_ino = before.last_ino; last_index = before.last_index; dir_indexes = dir_indexes i } })
     c.settle.ensures.view

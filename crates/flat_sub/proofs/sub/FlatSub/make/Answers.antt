@@ -15,7 +15,7 @@ returns-in-Missing-clause-done c =
     let run : RunSub = sub_view c.args.self.now in
     let inode : InodeRecord = c.args.inode in
     let place = walk run.sub c.args.path.now in
-    let name : FlatName = new_name run.sub.names place (run.marks.last_index + 1) (run.marks.last_ino + 1) in
+    let name : FlatName = new_name run.sub.names place (run.numbers.last_index + 1) (run.numbers.last_ino + 1) in
     refused run (make_rows run place name) (make_done run inode name) NoEnt (ap (λ w. first_answer (make_rows run w name)) c.in-Missing.ensures)
 
 pub returns-in-Blocked-clause-done : goal.returns-in-Blocked-clause-done
@@ -24,7 +24,7 @@ returns-in-Blocked-clause-done c =
     let run : RunSub = sub_view c.args.self.now in
     let inode : InodeRecord = c.args.inode in
     let place = walk run.sub c.args.path.now in
-    let name : FlatName = new_name run.sub.names place (run.marks.last_index + 1) (run.marks.last_ino + 1) in
+    let name : FlatName = new_name run.sub.names place (run.numbers.last_index + 1) (run.numbers.last_ino + 1) in
     refused run (make_rows run place name) (make_done run inode name) NotDir (ap (λ w. first_answer (make_rows run w name)) c.in-Blocked.ensures)
 
 pub returns-in-Root-clause-done : goal.returns-in-Root-clause-done
@@ -33,7 +33,7 @@ returns-in-Root-clause-done c =
     let run : RunSub = sub_view c.args.self.now in
     let inode : InodeRecord = c.args.inode in
     let place = walk run.sub c.args.path.now in
-    let name : FlatName = new_name run.sub.names place (run.marks.last_index + 1) (run.marks.last_ino + 1) in
+    let name : FlatName = new_name run.sub.names place (run.numbers.last_index + 1) (run.numbers.last_ino + 1) in
     refused run (make_rows run place name) (make_done run inode name) Exists (ap (λ w. first_answer (make_rows run w name)) c.in-Root.ensures)
 
 pub returns-in-Taken-clause-done : goal.returns-in-Taken-clause-done
@@ -42,5 +42,5 @@ returns-in-Taken-clause-done c =
     let run : RunSub = sub_view c.args.self.now in
     let inode : InodeRecord = c.args.inode in
     let place = walk run.sub c.args.path.now in
-    let name : FlatName = new_name run.sub.names place (run.marks.last_index + 1) (run.marks.last_ino + 1) in
+    let name : FlatName = new_name run.sub.names place (run.numbers.last_index + 1) (run.numbers.last_ino + 1) in
     refused run (make_rows run place name) (make_done run inode name) Exists (ap (λ w. first_answer (make_rows run w name)) c.in-Taken.ensures.slot)

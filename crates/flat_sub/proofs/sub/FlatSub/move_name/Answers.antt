@@ -36,6 +36,6 @@ returns-clause-done c =
     rename_finishes run c.args.old.now c.args.new.now c.requires.open (list_view c.in_ok-list.list) (list_view c.remove_end.new.self) two (list_view c.make.new.self) c.ino.result given c.in_ok-list.ensures.same
     (c.remove_end.ensures.gone to c.requires.to) (c.remove_end-2.ensures.gone from c.requires.from) (c.ino.ensures names from c.requires.from) given_is c.in_ok-near.ensures.added (sym c.is_crowded.ensures ∙ c.if-is_crowded.false)
     _ middle (sub_view c.drop_lost.new.self)
-    (λ i. record { sub = run.sub; marks = record { last_ino = before.last_ino; last_index = before.last_index; dir_indexes = dir_indexes i } })
+    (λ i. record { sub = run.sub; numbers = record { last_ino = before.last_ino; last_index = before.last_index; dir_indexes = dir_indexes i } })
     c.settle.ensures.view
     (c.drop_lost.ensures.view ∙ ap (λ lost. dropped middle (without_lost middle.sub.inodes lost)) (c.lost-lost.ensures names to c.requires.to))

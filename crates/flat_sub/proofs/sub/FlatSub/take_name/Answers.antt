@@ -11,7 +11,7 @@ returns-clause-gone c = λ name place.
     (λ i. names_view (c.remove-2.ensures.items i) (c.remove.ensures.items i)) ∙ remove_view before.names.items before.near.items c.args.at c.requires.kept.marked ∙ remove_at (names_view before.names.items before.near.items) c.args.at name _ c.requires.kept.in_order place in
     λ i. record {
       sub = record { inodes = (Rattle.flat_sub.specs.View.sub_view before).sub.inodes; names = seen i };
-      marks = (Rattle.flat_sub.specs.View.sub_view before).marks;
+      numbers = (Rattle.flat_sub.specs.View.sub_view before).numbers;
     }
 
 pub returns-clause-kept : goal.returns-clause-kept

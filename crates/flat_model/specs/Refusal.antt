@@ -1,7 +1,7 @@
--- Which answers refuse an operation.
+-- Which answers an operation may give, and which of them refuse it.
 use Rattle.std.specs.Prelude.{Bool, true, false}
 use Rattle.flat_model.specs.declared.answer.Answer.{Answer}
-use Rattle.flat_model.specs.declared.answer.Answer.TheVariants.{Xdev, NoEnt, NotDir, IsDir, Exists, NotEmpty, Loop, Links, TooLarge, NoAttr, Collide}
+use Rattle.flat_model.specs.declared.answer.Answer.TheVariants.{Plain, Number, Bytes, Xdev, NoEnt, NotDir, IsDir, Exists, NotEmpty, Loop, Links, TooLarge, NoAttr, Collide}
 
 -- an answer that refuses an operation (own)
 abbrev pub is_refusal : Answer → Bool
@@ -17,3 +17,10 @@ is_refusal TooLarge = true
 is_refusal NoAttr = true
 is_refusal Collide = true
 is_refusal answer = false
+
+-- an answer that says that an operation was done (own)
+abbrev pub is_done : Answer → Bool
+is_done Plain = true
+is_done (Number number) = true
+is_done (Bytes bytes) = true
+is_done answer = false
