@@ -1,0 +1,13 @@
+//! Histories of a mounted volume: the events of commits, the state that they leave, and which of them may come.
+//!
+//! An event is a step of one caller: an operation, a log step of an fsync, the seal of a log, of the log roots or of the
+//! whole volume, the end of its device work, or its failure. The state of a volume is a function of the events since its
+//! mount (`specs/State.antt`, `specs/Effects.antt`), and each event has a condition (`specs/Legal.antt`). All laws are of
+//! definitions alone: the functions here have no parameters and no body.
+#![tactic(auto)]
+
+mod event;
+mod numbers;
+
+pub use event::{Cover, Event, Logged, OpEnd, Turn};
+pub use numbers::log_numbers_rise;
