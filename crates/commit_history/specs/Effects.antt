@@ -100,20 +100,39 @@ log_failed log caller = record log {
   waiting = filter (λ (fsync : Synced). not (nat_eq fsync.caller caller)) log.waiting;
 }
 
+-- the log after a log step on the current subvolume, where that is there
+abbrev pub log_stepped : Option RunSub → SubLog → ℕ → ℕ → ℕ → Logged → Bool → SubLog
+log_stepped None log caller point ino end datasync = log
+log_stepped (Some run) log caller point ino end datasync = log_after_step log run.sub caller point ino end datasync
+
+-- the log once a root commit is done that takes this number, where it takes one
+abbrev pub log_taken : Option ℕ → SubLog → SubLog
+log_taken None log = log
+log_taken (Some number) log = log_covered log number
+
+-- the log once a full commit of this subvolume is done, where it is there
+abbrev pub log_with : Option Subvolume → SubLog → SubLog
+log_with None log = log
+log_with (Some sub) log = log_committed log sub
+
+-- the subvolume that a full commit commits, where one runs
+abbrev pub sub_sealed : Option FullCommit → ℕ → Option Subvolume
+sub_sealed None id = None
+sub_sealed (Some full) id = get full.volume id
+
 -- the log of a subvolume after an event (own)
 abbrev pub log_after : State → Event → ℕ → SubLog → SubLog
 log_after state (event.Op caller op again end indexes) id log = log
 log_after state (event.Refused caller target answer) id log = log
 log_after state (event.Log caller sub ino end datasync) id log =
-    cond (nat_eq id sub.0) (elim (get state.current id) [ None ↦ log | Some run ↦ log_after_step log run.sub caller state.point ino.0 end datasync ]) log
+    cond (nat_eq id sub.0) (log_stepped (get state.current id) log caller state.point ino.0 end datasync) log
 log_after state (event.Ask caller) id log = log
 log_after state (event.SealSub caller sub number) id log = cond (nat_eq id sub.0) (log_sealed log caller number) log
 log_after state (event.SubWritten caller sub number) id log = cond (nat_eq id sub.0) (record log { slots = slots_written log.slots number }) log
 log_after state (event.SealRoot caller) id log = log
-log_after state (event.RootDone caller) id log = elim (number_taken state.root id) [ None ↦ log | Some number ↦ log_covered log number ]
+log_after state (event.RootDone caller) id log = log_taken (number_taken state.root id) log
 log_after state (event.SealFull caller) id log = log
-log_after state (event.FullDone caller) id log =
-    elim state.full [ None ↦ log | Some full ↦ elim (get full.volume id) [ None ↦ log | Some sub ↦ log_committed log sub ] ]
+log_after state (event.FullDone caller) id log = log_with (sub_sealed state.full id) log
 log_after state (event.Failed caller turn tried) id log = log_failed log caller
 log_after state (event.GiveUp caller sub number) id log = cond (nat_eq id sub.0) (record log { slots = slots_without log.slots number }) log
 
