@@ -239,11 +239,21 @@ attributes_grow run place attributes = at (ino_at place)
 
 set_attribute_grows : (run : RunSub) (path : List (List ℕ)) (name value : List ℕ) → Grows run (set_attribute run path name value)
 unfolding set_attribute
-set_attribute_grows run path name value = outcome_cases (Grows run) run _ _ (unchanged_grows run) (λ rows choice. attributes_grow run (walk run.sub path) (insert (attributes_there (record_at run.sub (walk run.sub path))) name value))
+set_attribute_grows run path name value =
+    let place : WalkEnd = walk run.sub path in
+    let attributes : Attributes = insert (attributes_there (record_at run.sub place)) name value in
+    outcome_cases (Grows run) run
+    ((is_absent place, NoEnt) ∷ (is_blocked place, NotDir) ∷ (nat_lt 1024 (length value), TooLarge) ∷ (nat_lt most_item_bytes (xattr_item_length attributes (name_hash_of name)), Collide) ∷ [])
+    (record { next = with_attributes_at run place attributes; answer = Plain; made = [] })
+    (unchanged_grows run) (λ rows choice. attributes_grow run place attributes)
 
 remove_attribute_grows : (run : RunSub) (path : List (List ℕ)) (name : List ℕ) → Grows run (remove_attribute run path name)
 unfolding remove_attribute
-remove_attribute_grows run path name = outcome_cases (Grows run) run _ _ (unchanged_grows run) (λ rows choice. attributes_grow run (walk run.sub path) (remove (attributes_there (record_at run.sub (walk run.sub path))) name))
+remove_attribute_grows run path name =
+    let place : WalkEnd = walk run.sub path in
+    let attributes : Attributes = remove (attributes_there (record_at run.sub place)) name in
+    outcome_cases (Grows run) run (attribute_rows run place name) (record { next = with_attributes_at run place attributes; answer = Plain; made = [] })
+    (unchanged_grows run) (λ rows choice. attributes_grow run place attributes)
 
 get_attribute_grows : (run : RunSub) (path : List (List ℕ)) (name : List ℕ) → Grows run (get_attribute run path name)
 unfolding get_attribute

@@ -1,3 +1,4 @@
 pub mod Maps
 pub mod LogNumbers
 pub mod Growth
+pub mod PointsOf

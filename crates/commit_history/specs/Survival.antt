@@ -1,7 +1,7 @@
 -- What a crash may leave after some events, and when it survives them.
-use Rattle.std.specs.Prelude.{◌≡◌, ℕ, ◌≤◌, Bool, true, List, [], ◌∷◌, ◌++◌, length, cond, Option, Some, None, unwrap_or, Contains}
+use Rattle.std.specs.Prelude.{◌≡◌, ℕ, ◌<◌, ◌≤◌, Bool, true, List, [], ◌∷◌, ◌++◌, length, cond, Option, Some, None, unwrap_or, Contains}
 use Rattle.std.specs.FinMap.{get}
-use Rattle.flat_model.specs.Records.{InodeRecord}
+use Rattle.flat_model.specs.Records.{InodeRecord, at_creation}
 use Rattle.flat_model.specs.Names.{FlatName, names_of}
 use Rattle.flat_model.specs.Coherent.{IsCoherent}
 use Rattle.flat_model.specs.Volume.{Subvolume, Volume}
@@ -24,6 +24,15 @@ operations_of (other ∷ events) = operations_of events
 -- the subvolume at a point of the history is this one
 abbrev pub IsAtPoint : Volume → List Operated → ℕ → ℕ → Subvolume → Type 0
 IsAtPoint volume history id point sub = IsPoint history point × (get (volume_at volume history point) id ≡ Some sub)
+
+-- an inode was made between two points, not before the first and not after the second: at a point its record is the one at creation
+pub record IsMadeBetween (volume : Volume) (history : List Operated) (id ino early late : ℕ) (inode : InodeRecord) : Type 0 where
+  pub point : ℕ
+  pub there : Subvolume
+  pub later : early < point
+  pub not_after : point ≤ late
+  pub at : IsAtPoint volume history id point there
+  pub fresh : get there.inodes ino ≡ Some (at_creation inode)
 
 -- the directory has a name of the inode
 abbrev pub HasNameIn : Subvolume → ℕ → ℕ → Type 0

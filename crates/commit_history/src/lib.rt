@@ -8,6 +8,8 @@
 
 mod event;
 mod numbers;
+mod points;
 
 pub use event::{Cover, Event, Logged, OpEnd, Turn};
 pub use numbers::log_numbers_rise;
+pub use points::{creation_is_a_point, points_of_a_history_agree};
