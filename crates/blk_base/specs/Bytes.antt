@@ -1,6 +1,7 @@
 -- Bytes and little-endian fields, as all blocks and items of Btrfs have them.
 use Rattle.std.specs.Prelude.{◌≡◌, ◌<◌, ◌+◌, ℕ, List, ◌++◌, length, take, drop, slice_index, replicate, All}
 use Rattle.byteorder.specs.Endian.{little_number, little_bytes}
+use Rattle.blk_base.specs.declared.format.TheConstants.{BLOCK_SIZE}
 
 -- every item of the list is a byte
 abbrev pub IsBytes : List ℕ → Type 0
@@ -8,7 +9,7 @@ IsBytes bytes = (i : ℕ) → slice_index bytes i < 256
 
 -- a block: 4096 bytes
 pub record IsBlock (bytes : List ℕ) : Type 0 where
-  pub size : length bytes ≡ 4096
+  pub size : length bytes ≡ BLOCK_SIZE
   pub range : All (λ byte. byte < 256) bytes
 
 -- the blocks of a disk, from block 0 on, each as the list of its bytes

@@ -6,6 +6,7 @@ use Rattle.std.specs.Str.{bytes_eq}
 use Rattle.blk_base.specs.declared.fault.ItemFault.{ItemFault}
 use Rattle.blk_base.specs.declared.fault.ItemFault.TheVariants.{Size, NameLen, Cut, Kind, Twice}
 use Rattle.blk_base.specs.declared.key.Key.{Key}
+use Rattle.blk_base.specs.declared.format.TheConstants.{FIRST_FREE, FILE_ENTRY, DIR_ENTRY, LINK_ENTRY, ATTR_ENTRY}
 use Rattle.blk_base.specs.Bytes.{field, bytes_at, number_bytes}
 use Rattle.blk_base.specs.Keys.{KeyFits, key_bytes, key_at, dir_index, xattr_item, inode_ref}
 use Rattle.blk_base.specs.Name.{IsName, is_name}
@@ -42,10 +43,10 @@ ref_from bytes = entry_within 10 (λ b. field 2 b 8) (λ b. record { index = fie
 
 -- the one place of the name `..`: the root directory's item of itself
 abbrev pub IsDotsPlace : Key → Type 0
-IsDotsPlace key = (key.objectid ≡ 256) × (key.kind ≡ inode_ref) × (key.offset ≡ 256)
+IsDotsPlace key = (key.objectid ≡ FIRST_FREE) × (key.kind ≡ inode_ref) × (key.offset ≡ FIRST_FREE)
 
 abbrev pub is_dots_place : Key → Bool
-is_dots_place key = (key.objectid == 256) && (key.kind == inode_ref) && (key.offset == 256)
+is_dots_place key = (key.objectid == FIRST_FREE) && (key.kind == inode_ref) && (key.offset == FIRST_FREE)
 
 abbrev pub dots : List ℕ
 dots = 46 ∷ 46 ∷ []
@@ -105,16 +106,16 @@ pub record EntryValue : Type 0 where
 
 -- types of entries
 abbrev pub file_entry : ℕ
-file_entry = 1
+file_entry = FILE_ENTRY
 
 abbrev pub dir_entry : ℕ
-dir_entry = 2
+dir_entry = DIR_ENTRY
 
 abbrev pub link_entry : ℕ
-link_entry = 7
+link_entry = LINK_ENTRY
 
 abbrev pub attr_entry : ℕ
-attr_entry = 8
+attr_entry = ATTR_ENTRY
 
 abbrev pub entry_bytes : EntryValue → List ℕ
 entry_bytes e = key_bytes e.target ++ number_bytes 8 e.transid ++ number_bytes 2 (length e.value) ++ number_bytes 2 (length e.name) ++ number_bytes 1 e.kind ++ e.name ++ e.value

@@ -3,6 +3,8 @@ use Rattle.std.specs.Prelude.{◌≡◌, ◌≤◌, ◌<◌, ◌+◌, ◌%◌, �
 use Rattle.blk_base.specs.declared.fault.ItemFault.{ItemFault}
 use Rattle.blk_base.specs.declared.fault.ItemFault.TheVariants.{Size, Compressed, Encrypted, Preallocated, Kind, Align}
 use Rattle.blk_base.specs.declared.key.Key.{Key}
+use Rattle.blk_base.specs.declared.format.TheConstants.{BLOCK_SIZE}
+use Rattle.blk_base.specs.declared.limits.TheConstants.{MOST_FILE_BYTES}
 use Rattle.blk_base.specs.Bytes.{field, number_bytes, zeros}
 
 -- what an extent says: data in the item itself; a run of blocks at a byte address, of so many bytes; in a log also a hole of so many bytes
@@ -13,7 +15,7 @@ pub data ExtentValue : Type 0 where
 
 -- the greatest file, in bytes
 abbrev pub file_limit : ℕ
-file_limit = 16777216
+file_limit = MOST_FILE_BYTES
 
 -- fields: generation, ram_bytes, compression, encryption, other_encoding, type; then data, or disk_bytenr, disk_num_bytes, offset, num_bytes
 abbrev pub ram_bytes : List ℕ → ℕ
@@ -42,20 +44,20 @@ pub record IsPlain (bytes : List ℕ) : Type 0 where
 
 -- a run of 1 to 4096 whole blocks
 abbrev pub IsRun : ℕ → Type 0
-IsRun len = (len % 4096 ≡ 0) × (4096 ≤ len) × (len ≤ file_limit)
+IsRun len = (len % BLOCK_SIZE ≡ 0) × (BLOCK_SIZE ≤ len) × (len ≤ file_limit)
 
 -- the bytes under this key are this extent, in the tree of a subvolume; in a log also a hole
 abbrev pub IsExtent : Key → List ℕ → ExtentValue → Type 0
 IsExtent key bytes (Inline content) = IsPlain bytes × (extent_type bytes ≡ 0) × (22 ≤ length bytes) × (drop 21 bytes ≡ content) × (ram_bytes bytes ≡ length content) × (key.offset ≡ 0)
 IsExtent key bytes (Regular at offset len) =
     IsPlain bytes × (extent_type bytes ≡ 1) × (length bytes ≡ 53) × (disk_at bytes ≡ at) × (extent_offset bytes ≡ offset) × (offset ≡ 0)
-    × (disk_bytes bytes ≡ len) × (ram_bytes bytes ≡ len) × (num_bytes bytes ≡ len) × IsRun len × (key.offset % 4096 ≡ 0)
+    × (disk_bytes bytes ≡ len) × (ram_bytes bytes ≡ len) × (num_bytes bytes ≡ len) × IsRun len × (key.offset % BLOCK_SIZE ≡ 0)
 IsExtent key bytes (Hole len) = ⊥
 
 abbrev pub IsLogExtent : Key → List ℕ → ExtentValue → Type 0
 IsLogExtent key bytes (Hole len) =
     IsPlain bytes × (extent_type bytes ≡ 1) × (length bytes ≡ 53) × (disk_at bytes ≡ 0) × (disk_bytes bytes ≡ 0) × (extent_offset bytes ≡ 0)
-    × (ram_bytes bytes ≡ len) × (num_bytes bytes ≡ len) × (len % 4096 ≡ 0) × (0 < len) × (key.offset % 4096 ≡ 0)
+    × (ram_bytes bytes ≡ len) × (num_bytes bytes ≡ len) × (len % BLOCK_SIZE ≡ 0) × (0 < len) × (key.offset % BLOCK_SIZE ≡ 0)
 IsLogExtent key bytes v = IsExtent key bytes v
 
 -- a length that an item of this type can't have
@@ -63,17 +65,17 @@ abbrev pub is_short : List ℕ → Bool
 is_short bytes = nat_lt (length bytes) 21 || ((extent_type bytes == 0) && nat_lt (length bytes) 22) || (((extent_type bytes == 1) || (extent_type bytes == 2)) && not (length bytes == 53))
 
 abbrev pub is_run : ℕ → Bool
-is_run len = (len % 4096 == 0) && nat_le 4096 len && nat_le len file_limit
+is_run len = (len % BLOCK_SIZE == 0) && nat_le BLOCK_SIZE len && nat_le len file_limit
 
 abbrev pub is_inline : Key → List ℕ → Bool
 is_inline key bytes = (ram_bytes bytes + 21 == length bytes) && (key.offset == 0)
 
 abbrev pub is_regular : Key → List ℕ → Bool
-is_regular key bytes = is_run (num_bytes bytes) && (ram_bytes bytes == num_bytes bytes) && (disk_bytes bytes == num_bytes bytes) && (extent_offset bytes == 0) && (key.offset % 4096 == 0)
+is_regular key bytes = is_run (num_bytes bytes) && (ram_bytes bytes == num_bytes bytes) && (disk_bytes bytes == num_bytes bytes) && (extent_offset bytes == 0) && (key.offset % BLOCK_SIZE == 0)
 
 abbrev pub is_hole : Key → List ℕ → Bool
 is_hole key bytes =
-    (disk_at bytes == 0) && (disk_bytes bytes == 0) && (extent_offset bytes == 0) && (ram_bytes bytes == num_bytes bytes) && (num_bytes bytes % 4096 == 0) && nat_lt 0 (num_bytes bytes) && (key.offset % 4096 == 0)
+    (disk_at bytes == 0) && (disk_bytes bytes == 0) && (extent_offset bytes == 0) && (ram_bytes bytes == num_bytes bytes) && (num_bytes bytes % BLOCK_SIZE == 0) && nat_lt 0 (num_bytes bytes) && (key.offset % BLOCK_SIZE == 0)
 
 -- the extent, or its first fault; `holes` says whether it stands in a log
 abbrev pub extent_in : Bool → Key → List ℕ → Result ExtentValue ItemFault

@@ -4,6 +4,7 @@ use Rattle.std.specs.Ordering.{nat_cmp, ordering_then, is_lt}
 use Rattle.std.specs.declared.cmp.Ordering.{Ordering}
 use Rattle.std.specs.declared.cmp.Ordering.TheVariants.{Less}
 use Rattle.blk_base.specs.declared.key.Key.{Key}
+use Rattle.blk_base.specs.declared.format.TheConstants.{INODE_ITEM, INODE_REF, INODE_EXTREF, XATTR_ITEM, ORPHAN_ITEM, DIR_LOG_INDEX, DIR_ITEM, DIR_INDEX, EXTENT_DATA, ROOT_ITEM, ROOT_TREE, FS_TREE, FIRST_FREE, TREE_LOG, TREE_LOG_FIXUP}
 use Rattle.blk_base.specs.Bytes.{field, number_bytes}
 
 -- by object id, then type, then offset ("Key")
@@ -38,47 +39,47 @@ key_at bytes at = record { objectid = field 8 bytes at; kind = field 1 bytes (at
 
 -- types of keys ("Item Types")
 abbrev pub inode_item : ℕ
-inode_item = 1
+inode_item = INODE_ITEM
 
 abbrev pub inode_ref : ℕ
-inode_ref = 12
+inode_ref = INODE_REF
 
 abbrev pub inode_extref : ℕ
-inode_extref = 13
+inode_extref = INODE_EXTREF
 
 abbrev pub xattr_item : ℕ
-xattr_item = 24
+xattr_item = XATTR_ITEM
 
 abbrev pub orphan_item : ℕ
-orphan_item = 48
+orphan_item = ORPHAN_ITEM
 
 abbrev pub dir_log_index : ℕ
-dir_log_index = 72
+dir_log_index = DIR_LOG_INDEX
 
 abbrev pub dir_item : ℕ
-dir_item = 84
+dir_item = DIR_ITEM
 
 abbrev pub dir_index : ℕ
-dir_index = 96
+dir_index = DIR_INDEX
 
 abbrev pub extent_data : ℕ
-extent_data = 108
+extent_data = EXTENT_DATA
 
 abbrev pub root_item : ℕ
-root_item = 132
+root_item = ROOT_ITEM
 
 -- object ids and owners of trees ("Object IDs")
 abbrev pub root_tree : ℕ
-root_tree = 1
+root_tree = ROOT_TREE
 
 abbrev pub fs_tree : ℕ
-fs_tree = 5
+fs_tree = FS_TREE
 
 abbrev pub first_free : ℕ
-first_free = 256
+first_free = FIRST_FREE
 
 abbrev pub tree_log : ℕ
-tree_log = 0xFFFF_FFFF_FFFF_FFFA
+tree_log = TREE_LOG
 
 abbrev pub tree_log_fixup : ℕ
-tree_log_fixup = 0xFFFF_FFFF_FFFF_FFF9
+tree_log_fixup = TREE_LOG_FIXUP

@@ -1,11 +1,12 @@
 -- Blocks of trees: the header, a leaf's list of items and a node's list of pointers, from any list of bytes.
-use Rattle.std.specs.Prelude.{◌≡◌, ◌≤◌, ◌<◌, ◌+◌, ◌*◌, ◌-◌, ◌^◌, ℕ, Bool, ◌&&◌, ◌||◌, not, nat_lt, nat_le, ◌==◌, List, [], ◌∷◌, length, map, slice_get, Some, Result, Ok, Err, if◌then◌else◌}
+use Rattle.std.specs.Prelude.{◌≡◌, ◌≤◌, ◌<◌, ◌+◌, ◌*◌, ◌-◌, ℕ, Bool, ◌&&◌, ◌||◌, not, nat_lt, nat_le, ◌==◌, List, [], ◌∷◌, length, map, slice_get, Some, Result, Ok, Err, if◌then◌else◌}
 use Rattle.std.specs.List.{list_all, range_with_len}
 use Rattle.std.specs.Str.{bytes_eq}
 use Rattle.blk_base.specs.declared.key.Key.{Key}
 use Rattle.blk_base.specs.declared.key.Want.{Want}
 use Rattle.blk_base.specs.declared.fault.BlockFault.{BlockFault}
 use Rattle.blk_base.specs.declared.fault.BlockFault.TheVariants.{Checksum, Fsid, Address, Generation, Owner, Level, Count, Order, Bounds, Overlap}
+use Rattle.blk_base.specs.declared.format.TheConstants.{HEADER_SIZE, HEADER_FLAGS, ITEM_HEADER_SIZE, POINTER_SIZE, LEAF_BYTES, MOST_ITEMS, MOST_POINTERS}
 use Rattle.blk_base.specs.Bytes.{field, bytes_at, number_bytes, zeros}
 use Rattle.blk_base.specs.Crc.{block_sum}
 use Rattle.blk_base.specs.Superblock.{Field, with_fields, with_sum}
@@ -43,7 +44,7 @@ header_fields want =
     (4, zeros 28)
     ∷ (32, want.fsid)
     ∷ (48, number_bytes 8 want.at.0)
-    ∷ (56, number_bytes 8 (2 ^ 56 + 1))
+    ∷ (56, number_bytes 8 HEADER_FLAGS)
     ∷ (64, zeros 16)
     ∷ (80, number_bytes 8 want.generation)
     ∷ (88, number_bytes 8 want.owner)
@@ -62,7 +63,7 @@ Item = Key × List ℕ
 
 -- where the header of item i stands
 abbrev pub header_at : ℕ → ℕ
-header_at i = 101 + 25 * i
+header_at i = HEADER_SIZE + ITEM_HEADER_SIZE * i
 
 abbrev pub item_key : List ℕ → ℕ → Key
 item_key bytes i = key_at bytes (header_at i)
@@ -78,7 +79,7 @@ abbrev pub item_end : List ℕ → ℕ → ℕ
 item_end bytes i = item_offset bytes i + item_size bytes i
 
 abbrev pub item_of : List ℕ → ℕ → Item
-item_of bytes i = (item_key bytes i, bytes_at (item_size bytes i) bytes (101 + item_offset bytes i))
+item_of bytes i = (item_key bytes i, bytes_at (item_size bytes i) bytes (HEADER_SIZE + item_offset bytes i))
 
 -- the data of item i have the byte at this place
 pub record HasByte (bytes : List ℕ) (i at : ℕ) : Type 0 where
@@ -88,11 +89,11 @@ pub record HasByte (bytes : List ℕ) (i at : ℕ) : Type 0 where
 -- the block's body is a leaf with these items
 pub record IsLeafBody (bytes : List ℕ) (items : List Item) : Type 0 where
   pub count : count_of bytes ≡ length items
-  pub most : length items ≤ 159
+  pub most : length items ≤ MOST_ITEMS
   pub each : (i : ℕ) → i < length items → slice_get items i ≡ Some (item_of bytes i)
   pub order : (i : ℕ) → i + 1 < length items → KeyBelow (item_key bytes i) (item_key bytes (i + 1))
-  pub behind_headers : (i : ℕ) → i < length items → 25 * length items ≤ item_offset bytes i
-  pub inside : (i : ℕ) → i < length items → item_end bytes i ≤ 3995
+  pub behind_headers : (i : ℕ) → i < length items → ITEM_HEADER_SIZE * length items ≤ item_offset bytes i
+  pub inside : (i : ℕ) → i < length items → item_end bytes i ≤ LEAF_BYTES
   pub apart : (i j at : ℕ) → i < j → j < length items → HasByte bytes i at → HasByte bytes j at → ⊥
 
 -- a leaf, read with this want
@@ -105,7 +106,7 @@ abbrev pub below : ℕ → List ℕ
 below n = range_with_len 0 n
 
 abbrev pub in_bounds : List ℕ → ℕ → Bool
-in_bounds bytes i = nat_le (25 * count_of bytes) (item_offset bytes i) && nat_le (item_end bytes i) 3995
+in_bounds bytes i = nat_le (ITEM_HEADER_SIZE * count_of bytes) (item_offset bytes i) && nat_le (item_end bytes i) LEAF_BYTES
 
 -- two items share no byte
 abbrev pub are_apart : List ℕ → ℕ → ℕ → Bool
@@ -119,7 +120,7 @@ apart_before bytes i = list_all (are_apart bytes i) (below i)
 unfoldable pub leaf_body_of : List ℕ → Result (List Item) BlockFault
 leaf_body_of bytes =
     let places = below (count_of bytes) in
-    if nat_lt 159 (count_of bytes) then Err Count else
+    if nat_lt MOST_ITEMS (count_of bytes) then Err Count else
     if not (keys_rise (map (item_key bytes) places)) then Err Order else
     if not (list_all (in_bounds bytes) places) then Err Bounds else
     if not (list_all (apart_before bytes) places) then Err Overlap else Ok (map (item_of bytes) places)
@@ -138,7 +139,7 @@ pub record Pointer : Type 0 where
 
 -- where pointer i stands
 abbrev pub pointer_at : ℕ → ℕ
-pointer_at i = 101 + 33 * i
+pointer_at i = HEADER_SIZE + POINTER_SIZE * i
 
 abbrev pub pointer_of : List ℕ → ℕ → Pointer
 pointer_of bytes i = record { key = key_at bytes (pointer_at i); at = field 8 bytes (pointer_at i + 17); generation = field 8 bytes (pointer_at i + 25) }
@@ -147,7 +148,7 @@ pointer_of bytes i = record { key = key_at bytes (pointer_at i); at = field 8 by
 pub record IsNodeBody (bytes : List ℕ) (pointers : List Pointer) : Type 0 where
   pub count : count_of bytes ≡ length pointers
   pub least : 1 ≤ length pointers
-  pub most : length pointers ≤ 121
+  pub most : length pointers ≤ MOST_POINTERS
   pub each : (i : ℕ) → i < length pointers → slice_get pointers i ≡ Some (pointer_of bytes i)
   pub order : (i : ℕ) → i + 1 < length pointers → KeyBelow (key_at bytes (pointer_at i)) (key_at bytes (pointer_at (i + 1)))
 
@@ -160,7 +161,7 @@ pub record IsNode (want : Want) (bytes : List ℕ) (pointers : List Pointer) : T
 unfoldable pub node_body_of : List ℕ → Result (List Pointer) BlockFault
 node_body_of bytes =
     let places = below (count_of bytes) in
-    if (count_of bytes == 0) || nat_lt 121 (count_of bytes) then Err Count else
+    if (count_of bytes == 0) || nat_lt MOST_POINTERS (count_of bytes) then Err Count else
     if not (keys_rise (map (λ i. key_at bytes (pointer_at i)) places)) then Err Order else Ok (map (pointer_of bytes) places)
 
 -- the pointers of a node, or the first check that fails
@@ -175,4 +176,4 @@ data_of [] = 0
 data_of (item ∷ items) = length item.1 + data_of items
 
 abbrev pub room_of : List Item → ℕ
-room_of items = 3995 - (25 * length items + data_of items)
+room_of items = LEAF_BYTES - (ITEM_HEADER_SIZE * length items + data_of items)

@@ -9,3 +9,5 @@ pub mod Superblock
 pub mod Items
 pub mod Entries
 pub mod Extents
+pub mod Trees
+pub mod Causes

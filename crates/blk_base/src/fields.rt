@@ -1,7 +1,16 @@
-ghost use Rattle.std.specs.Prelude.{◌≡◌, ◌≤◌, ◌+◌, length};
+ghost use Rattle.std.specs.Prelude.{◌≡◌, ◌<◌, ◌≤◌, ◌+◌, length};
 ghost use Rattle.blk_base.specs.Bytes.{field, with_field, with_bytes};
 
 use byteorder::{ByteOrder, LittleEndian};
+
+/// The byte at a place.
+#[tactic(auto, unfolding(crate::specs::Bytes::field))]
+pub fn u8_at(bytes: &[u8], at: usize) -> u8
+    requires { at < length bytes.now }
+    ensures { result ≡ field 1 bytes.now at }
+{
+    bytes[at]
+}
 
 /// The little-endian field of two bytes at a place.
 #[tactic(auto, unfolding(crate::specs::Bytes::field))]
@@ -28,6 +37,14 @@ pub fn u64_at(bytes: &[u8], at: usize) -> u64
     ensures { result ≡ field 8 bytes.now at }
 {
     LittleEndian::read_u64(&bytes[at..])
+}
+
+/// Writes a byte at a place.
+pub fn put_u8(bytes: &mut [u8], at: usize, value: u8)
+    requires { at < length bytes.old }
+    ensures { bytes.new ≡ with_field 1 bytes.old at value }
+{
+    put_bytes(bytes, at, &[value]);
 }
 
 /// Writes a little-endian field of two bytes at a place.

@@ -1,5 +1,7 @@
+use crate::format::BLOCK_SIZE;
+
 /// A block of the disk, of a tree or of data: 4096 bytes.
-pub type Block = [u8; 4096];
+pub type Block = [u8; BLOCK_SIZE as usize];
 
 /// A byte address on the device, which is also the logical address. Addresses of blocks are multiples of 4096.
 #[derive(Clone, Copy, Debug, PartialEq, Eq, PartialOrd, Ord)]

@@ -8,19 +8,11 @@ ghost use Rattle.blk_base.specs.Name.{IsName, is_name};
 
 use crate::crc::crc_register;
 use crate::fault::OutOfMemory;
+use crate::format::{DOTS, HERE, MOST_NAME_BYTES};
 use crate::key::Ino;
 use std::alloc::Global;
 use std::cmp::Ordering;
 use std::marker::Model;
-
-/// The most bytes that a name has.
-const LONGEST: usize = 255;
-
-/// The name by which a directory stands in itself.
-const HERE: &[u8] = b".";
-
-/// The name of the directory above.
-const ABOVE: &[u8] = b"..";
 
 /// The hash of a name in the key of a DIR_ITEM ("DIR_ITEM" of the on-disk format; `btrfs_name_hash` of the kernel).
 pub fn name_hash(name: &[u8]) -> u32
@@ -43,10 +35,10 @@ pub fn extref_hash(parent: Ino, name: &[u8]) -> u32
 pub fn is_name(bytes: &[u8]) -> bool
     ensures { IsTrue result ↔ IsName bytes.now }
 {
-    if bytes.is_empty() || LONGEST < bytes.len() {
+    if bytes.is_empty() || MOST_NAME_BYTES < bytes.len() {
         return false;
     }
-    if bytes == HERE || bytes == ABOVE {
+    if bytes == HERE || bytes == DOTS {
         return false;
     }
     bytes.iter().all(|byte| *byte != 0 && *byte != b'/')

@@ -18,10 +18,11 @@ use Rattle.flat_model.specs.Names.{FlatName}
 use Rattle.flat_model.specs.Volume.{RunSub, RunVolume}
 use Rattle.flat_model.specs.Walk.{WalkEnd, walk, ino_at, record_at, is_absent, is_blocked}
 use Rattle.flat_model.specs.Operations.{Outcome, unless_refused, new_name, names_without, without_entry, make, make_rows, link, link_rows, unlink, unlink_rows, rmdir, rmdir_rows, rename, rename_rows, exchange, exchange_rows, lookup, file_rows, write, truncate, read, attributes_there, attribute_rows, set_attribute, remove_attribute, get_attribute}
-use Rattle.flat_model.specs.Step.{VolumeOutcome, volume_unchanged, at_place, at_places, step}
+use Rattle.flat_model.specs.Step.{VolumeOutcome, outcome_of, place_of, step}
 use Rattle.flat_model.proofs.Maps.{insert_same}
 use Rattle.flat_model.proofs.Fresh.{outcome_cases}
-use Rattle.flat_laws.specs.Refusal.{is_refusal}
+use Rattle.flat_model.proofs.Steps.{step_cases}
+use Rattle.flat_model.specs.Refusal.{is_refusal}
 
 -- what a refusal owes in a subvolume
 abbrev KeepsRefused : RunSub → Outcome → Type 0
@@ -115,39 +116,29 @@ pub get_attribute_quiet : (run : RunSub) (path : List (List ℕ)) (name : List �
 unfolding get_attribute
 get_attribute_quiet run path name = quiet_rows run (attribute_rows run (walk run.sub path) name) _ refl refl
 
+-- each operation in a subvolume
+outcome_refused : (run : RunSub) (op : Op) (indexes : List ℕ) → KeepsRefused run (outcome_of run op indexes)
+outcome_refused run (Create place) indexes = make_refused run place.path new_file (slice_index indexes 0)
+outcome_refused run (Mkdir place) indexes = make_refused run place.path new_dir (slice_index indexes 0)
+outcome_refused run (Symlink place target) indexes = make_refused run place.path (new_link target) (slice_index indexes 0)
+outcome_refused run (Link old new) indexes = link_refused run old.path new.path (slice_index indexes 0)
+outcome_refused run (Unlink place) indexes = (unlink_quiet run place.path).0
+outcome_refused run (Rmdir place) indexes = (rmdir_quiet run place.path).0
+outcome_refused run (Rename old new) indexes = rename_refused run old.path new.path (slice_index indexes 0)
+outcome_refused run (Exchange one two) indexes = exchange_refused run one.path two.path (slice_index indexes 0) (slice_index indexes 1)
+outcome_refused run (Lookup place) indexes = (lookup_quiet run place.path).0
+outcome_refused run (Write place offset text) indexes = (write_quiet run place.path offset text).0
+outcome_refused run (Truncate place size) indexes = (truncate_quiet run place.path size).0
+outcome_refused run (Read place offset count) indexes = (read_quiet run place.path offset count).0
+outcome_refused run (SetAttr place name value) indexes = (set_attribute_quiet run place.path name value).0
+outcome_refused run (DelAttr place name) indexes = (remove_attribute_quiet run place.path name).0
+outcome_refused run (GetAttr place name) indexes = (get_attribute_quiet run place.path name).0
+
 -- ---- operations on a volume
 
-at_place_refused : (run : RunVolume) (place : Place) (operate : RunSub → Outcome) → ((sub : RunSub) → KeepsRefused sub (operate sub)) → KeepsVolume run (at_place run place operate)
-at_place_refused run place operate keeps =
-    elim (get run place.sub.0) as (λ o. get run place.sub.0 ≡ o → KeepsVolume run (elim o [
-      | None ↦ volume_unchanged run NoEnt
-      | Some sub ↦ record { next = insert run place.sub.0 (operate sub).next; answer = (operate sub).answer; made = (operate sub).made }
-    ])) [
-      | None ↦ λ e refused. (refl, refl)
-      | Some sub ↦ λ e refused. let kept = keeps sub refused in (ap (insert run place.sub.0) kept.0 ∙ insert_same run place.sub.0 sub e, kept.1)
-    ] refl
-
-at_places_refused : (run : RunVolume) (one two : Place) (operate : RunSub → Outcome) → ((sub : RunSub) → KeepsRefused sub (operate sub)) → KeepsVolume run (at_places run one two operate)
-at_places_refused run one two operate keeps =
-    elim (nat_eq one.sub.0 two.sub.0) as (λ b. KeepsVolume run (cond b (at_place run one operate) (volume_unchanged run Xdev))) [
-      | true ↦ at_place_refused run one operate keeps
-      | false ↦ λ refused. (refl, refl)
-    ]
-
 pub step_refused : (run : RunVolume) (op : Op) (indexes : List ℕ) → KeepsVolume run (step run op indexes)
-unfolding step
-step_refused run (Create place) indexes = at_place_refused run place (λ sub. make sub place.path new_file (slice_index indexes 0)) (λ sub. make_refused sub place.path new_file (slice_index indexes 0))
-step_refused run (Mkdir place) indexes = at_place_refused run place (λ sub. make sub place.path new_dir (slice_index indexes 0)) (λ sub. make_refused sub place.path new_dir (slice_index indexes 0))
-step_refused run (Symlink place target) indexes = at_place_refused run place (λ sub. make sub place.path (new_link target) (slice_index indexes 0)) (λ sub. make_refused sub place.path (new_link target) (slice_index indexes 0))
-step_refused run (Link old new) indexes = at_places_refused run old new (λ sub. link sub old.path new.path (slice_index indexes 0)) (λ sub. link_refused sub old.path new.path (slice_index indexes 0))
-step_refused run (Unlink place) indexes = at_place_refused run place (λ sub. unlink sub place.path) (λ sub. (unlink_quiet sub place.path).0)
-step_refused run (Rmdir place) indexes = at_place_refused run place (λ sub. rmdir sub place.path) (λ sub. (rmdir_quiet sub place.path).0)
-step_refused run (Rename old new) indexes = at_places_refused run old new (λ sub. rename sub old.path new.path (slice_index indexes 0)) (λ sub. rename_refused sub old.path new.path (slice_index indexes 0))
-step_refused run (Exchange one two) indexes = at_places_refused run one two (λ sub. exchange sub one.path two.path (slice_index indexes 0) (slice_index indexes 1)) (λ sub. exchange_refused sub one.path two.path (slice_index indexes 0) (slice_index indexes 1))
-step_refused run (Lookup place) indexes = at_place_refused run place (λ sub. lookup sub place.path) (λ sub. (lookup_quiet sub place.path).0)
-step_refused run (Write place offset text) indexes = at_place_refused run place (λ sub. write sub place.path offset text) (λ sub. (write_quiet sub place.path offset text).0)
-step_refused run (Truncate place size) indexes = at_place_refused run place (λ sub. truncate sub place.path size) (λ sub. (truncate_quiet sub place.path size).0)
-step_refused run (Read place offset count) indexes = at_place_refused run place (λ sub. read sub place.path offset count) (λ sub. (read_quiet sub place.path offset count).0)
-step_refused run (SetAttr place name value) indexes = at_place_refused run place (λ sub. set_attribute sub place.path name value) (λ sub. (set_attribute_quiet sub place.path name value).0)
-step_refused run (DelAttr place name) indexes = at_place_refused run place (λ sub. remove_attribute sub place.path name) (λ sub. (remove_attribute_quiet sub place.path name).0)
-step_refused run (GetAttr place name) indexes = at_place_refused run place (λ sub. get_attribute sub place.path name) (λ sub. (get_attribute_quiet sub place.path name).0)
+step_refused run op indexes =
+    step_cases (KeepsVolume run) run op indexes (λ refused. (refl, refl)) (λ refused. (refl, refl)) (λ sub there refused.
+    let id : ℕ = (place_of op).sub.0 in
+    let kept = outcome_refused sub op indexes refused in
+    (ap (insert run id) kept.0 ∙ insert_same run id sub there, kept.1))

@@ -10,7 +10,7 @@ use Rattle.flat_model.specs.declared.place.Place.{Place}
 use Rattle.flat_model.specs.Records.{new_file, new_dir, new_link}
 use Rattle.flat_model.specs.Volume.{RunNumbers, RunSub, RunVolume, bare_numbers}
 use Rattle.flat_model.specs.Operations.{Outcome, make, link, unlink, rmdir, rename, exchange, lookup, write, truncate, read, set_attribute, remove_attribute, get_attribute}
-use Rattle.flat_model.specs.Step.{VolumeOutcome, volume_unchanged, at_place, at_places, step, place_of, numbers_in, AreNextIndexes, indexes_of, IsChoice}
+use Rattle.flat_model.specs.Step.{VolumeOutcome, volume_unchanged, with_outcome, outcome_of, outcome_within, is_within_sub, step, place_of, numbers_in, AreNextIndexes, indexes_of, IsChoice}
 use Rattle.flat_model.specs.Running.{IsSound, IsSoundVolume}
 use Rattle.flat_laws.proofs.Choices.{next_two, LeavesIndexes, make_leaves, link_leaves, rename_leaves, exchange_leaves, quiet_leaves}
 use Rattle.flat_laws.proofs.Refusals.{unlink_quiet, rmdir_quiet, lookup_quiet, write_quiet, truncate_quiet, read_quiet, set_attribute_quiet, remove_attribute_quiet, get_attribute_quiet}
@@ -21,10 +21,6 @@ pub record LeavesInVolume (numbers : RunNumbers) (operate : List ℕ → VolumeO
   pub shown : (indexes : List ℕ) → operate (indexes_of (operate indexes).made) ≡ operate indexes
   pub left : AreNextIndexes numbers (operate (next_two numbers)).made
 
--- a volume in which a subvolume came to this
-abbrev placed : RunVolume → ℕ → Outcome → VolumeOutcome
-placed run id outcome = record { next = insert run id outcome.next; answer = outcome.answer; made = outcome.made }
-
 -- nor does what is one outcome for all indexes and makes no name
 unchanged_leaves : (numbers : RunNumbers) (outcome : VolumeOutcome) → outcome.made ≡ [] → LeavesInVolume numbers (λ indexes. outcome)
 unchanged_leaves numbers outcome none = record {
@@ -33,46 +29,40 @@ unchanged_leaves numbers outcome none = record {
   left = subst (AreNextIndexes numbers) (sym none) tt;
 }
 
-at_place_leaves : (run : RunVolume) → IsSoundVolume run → (place : Place) (operate : List ℕ → RunSub → Outcome) → ((sub : RunSub) → IsSound sub → LeavesIndexes sub (λ indexes. operate indexes sub)) → LeavesInVolume (numbers_in run place.sub.0) (λ indexes. at_place run place (operate indexes))
-at_place_leaves run sound place operate leaves =
-    elim (get run place.sub.0) as (λ o. get run place.sub.0 ≡ o → LeavesInVolume (elim o [ None ↦ bare_numbers | Some sub ↦ sub.numbers ]) (λ indexes. elim o [ None ↦ volume_unchanged run NoEnt | Some sub ↦ placed run place.sub.0 (operate indexes sub) ])) [
-      | None ↦ λ e. unchanged_leaves bare_numbers (volume_unchanged run NoEnt) refl
-      | Some sub ↦ λ e. let free = leaves sub (sound place.sub.0 sub e) in record {
-        one_answer = free.one_answer;
-        shown = λ indexes. ap (placed run place.sub.0) (free.shown indexes);
-        left = free.left;
-      }
-    ] refl
+-- each operation in a subvolume
+outcome_leaves : (run : RunSub) → IsSound run → (op : Op) → LeavesIndexes run (outcome_of run op)
+outcome_leaves run sound (Create place) = make_leaves run sound place.path new_file
+outcome_leaves run sound (Mkdir place) = make_leaves run sound place.path new_dir
+outcome_leaves run sound (Symlink place target) = make_leaves run sound place.path (new_link target)
+outcome_leaves run sound (Link old new) = link_leaves run sound old.path new.path
+outcome_leaves run sound (Unlink place) = quiet_leaves run (unlink run place.path) (unlink_quiet run place.path).1
+outcome_leaves run sound (Rmdir place) = quiet_leaves run (rmdir run place.path) (rmdir_quiet run place.path).1
+outcome_leaves run sound (Rename old new) = rename_leaves run sound old.path new.path
+outcome_leaves run sound (Exchange one two) = exchange_leaves run sound one.path two.path
+outcome_leaves run sound (Lookup place) = quiet_leaves run (lookup run place.path) (lookup_quiet run place.path).1
+outcome_leaves run sound (Write place offset text) = quiet_leaves run (write run place.path offset text) (write_quiet run place.path offset text).1
+outcome_leaves run sound (Truncate place size) = quiet_leaves run (truncate run place.path size) (truncate_quiet run place.path size).1
+outcome_leaves run sound (Read place offset count) = quiet_leaves run (read run place.path offset count) (read_quiet run place.path offset count).1
+outcome_leaves run sound (SetAttr place name value) = quiet_leaves run (set_attribute run place.path name value) (set_attribute_quiet run place.path name value).1
+outcome_leaves run sound (DelAttr place name) = quiet_leaves run (remove_attribute run place.path name) (remove_attribute_quiet run place.path name).1
+outcome_leaves run sound (GetAttr place name) = quiet_leaves run (get_attribute run place.path name) (get_attribute_quiet run place.path name).1
 
-at_places_leaves : (run : RunVolume) → IsSoundVolume run → (one two : Place) (operate : List ℕ → RunSub → Outcome) → ((sub : RunSub) → IsSound sub → LeavesIndexes sub (λ indexes. operate indexes sub)) → LeavesInVolume (numbers_in run one.sub.0) (λ indexes. at_places run one two (operate indexes))
-at_places_leaves run sound one two operate leaves =
-    elim (nat_eq one.sub.0 two.sub.0) as (λ b. LeavesInVolume (numbers_in run one.sub.0) (λ indexes. cond b (at_place run one (operate indexes)) (volume_unchanged run Xdev))) [
-      | true ↦ at_place_leaves run sound one operate leaves
-      | false ↦ unchanged_leaves (numbers_in run one.sub.0) (volume_unchanged run Xdev) refl
-    ]
-
--- an operation that makes no name
-at_place_quiet : (run : RunVolume) → IsSoundVolume run → (place : Place) (operate : RunSub → Outcome) → ((sub : RunSub) → (operate sub).made ≡ []) → LeavesInVolume (numbers_in run place.sub.0) (λ indexes. at_place run place operate)
-at_place_quiet run sound place operate none = at_place_leaves run sound place (λ indexes. operate) (λ sub s. quiet_leaves sub (operate sub) (none sub))
-
--- each operation
 pub step_leaves : (run : RunVolume) → IsSoundVolume run → (op : Op) → LeavesInVolume (numbers_in run (place_of op).sub.0) (step run op)
 unfolding step
-step_leaves run sound (Create place) = at_place_leaves run sound place (λ indexes sub. make sub place.path new_file (slice_index indexes 0)) (λ sub s. make_leaves sub s place.path new_file)
-step_leaves run sound (Mkdir place) = at_place_leaves run sound place (λ indexes sub. make sub place.path new_dir (slice_index indexes 0)) (λ sub s. make_leaves sub s place.path new_dir)
-step_leaves run sound (Symlink place target) = at_place_leaves run sound place (λ indexes sub. make sub place.path (new_link target) (slice_index indexes 0)) (λ sub s. make_leaves sub s place.path (new_link target))
-step_leaves run sound (Link old new) = at_places_leaves run sound old new (λ indexes sub. link sub old.path new.path (slice_index indexes 0)) (λ sub s. link_leaves sub s old.path new.path)
-step_leaves run sound (Unlink place) = at_place_quiet run sound place (λ sub. unlink sub place.path) (λ sub. (unlink_quiet sub place.path).1)
-step_leaves run sound (Rmdir place) = at_place_quiet run sound place (λ sub. rmdir sub place.path) (λ sub. (rmdir_quiet sub place.path).1)
-step_leaves run sound (Rename old new) = at_places_leaves run sound old new (λ indexes sub. rename sub old.path new.path (slice_index indexes 0)) (λ sub s. rename_leaves sub s old.path new.path)
-step_leaves run sound (Exchange one two) = at_places_leaves run sound one two (λ indexes sub. exchange sub one.path two.path (slice_index indexes 0) (slice_index indexes 1)) (λ sub s. exchange_leaves sub s one.path two.path)
-step_leaves run sound (Lookup place) = at_place_quiet run sound place (λ sub. lookup sub place.path) (λ sub. (lookup_quiet sub place.path).1)
-step_leaves run sound (Write place offset text) = at_place_quiet run sound place (λ sub. write sub place.path offset text) (λ sub. (write_quiet sub place.path offset text).1)
-step_leaves run sound (Truncate place size) = at_place_quiet run sound place (λ sub. truncate sub place.path size) (λ sub. (truncate_quiet sub place.path size).1)
-step_leaves run sound (Read place offset count) = at_place_quiet run sound place (λ sub. read sub place.path offset count) (λ sub. (read_quiet sub place.path offset count).1)
-step_leaves run sound (SetAttr place name value) = at_place_quiet run sound place (λ sub. set_attribute sub place.path name value) (λ sub. (set_attribute_quiet sub place.path name value).1)
-step_leaves run sound (DelAttr place name) = at_place_quiet run sound place (λ sub. remove_attribute sub place.path name) (λ sub. (remove_attribute_quiet sub place.path name).1)
-step_leaves run sound (GetAttr place name) = at_place_quiet run sound place (λ sub. get_attribute sub place.path name) (λ sub. (get_attribute_quiet sub place.path name).1)
+step_leaves run sound op =
+    let id : ℕ = (place_of op).sub.0 in
+    elim (is_within_sub op) as (λ b. LeavesInVolume (numbers_in run id) (λ indexes. cond b (outcome_within run op indexes) (volume_unchanged run Xdev))) [
+      | true ↦
+          elim (get run id) as (λ o. get run id ≡ o → LeavesInVolume (elim o [ None ↦ bare_numbers | Some sub ↦ sub.numbers ]) (λ indexes. elim o [ None ↦ volume_unchanged run NoEnt | Some sub ↦ with_outcome run id (outcome_of sub op indexes) ])) [
+            | None ↦ λ e. unchanged_leaves bare_numbers (volume_unchanged run NoEnt) refl
+            | Some sub ↦ λ e. let free = outcome_leaves sub (sound id sub e) op in record {
+              one_answer = free.one_answer;
+              shown = λ indexes. ap (with_outcome run id) (free.shown indexes);
+              left = free.left;
+            }
+          ] refl
+      | false ↦ unchanged_leaves (numbers_in run id) (volume_unchanged run Xdev) refl
+    ]
 
 -- the answer doesn't depend on the indexes
 pub step_answer : (run : RunVolume) (op : Op) (one two : List ℕ) → IsSoundVolume run → (step run op one).answer ≡ (step run op two).answer

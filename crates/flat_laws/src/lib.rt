@@ -8,7 +8,7 @@ ghost use Rattle.flat_model.specs.Volume.{RunVolume};
 ghost use Rattle.flat_model.specs.Step.{AreNextIndexes, IsChoice, IsInLimits, IsSpelled, indexes_of, numbers_in, place_of, step};
 ghost use Rattle.flat_model.specs.Running.{IsSoundVolume};
 ghost use Rattle.flat_model.specs.declared.op.Op.{Op};
-ghost use Rattle.flat_laws.specs.Refusal.{is_refusal};
+ghost use Rattle.flat_model.specs.Refusal.{is_refusal};
 
 /// Law: an operation that is refused leaves the volume in its run as it was, and makes no name (own).
 pub fn refusals_change_nothing()

@@ -11,18 +11,22 @@ use Rattle.flat_model.specs.Contents.{most_file_bytes, bytes_read, written, trun
 use Rattle.flat_model.specs.Lengths.{most_item_bytes, xattr_item_length}
 use Rattle.flat_model.specs.Volume.{RunSub, is_dir_there, is_link_there}
 use Rattle.flat_model.specs.Walk.{WalkEnd, walk, ino_at, record_at, is_absent, is_blocked}
-use Rattle.flat_model.specs.Operations.{Outcome, write, truncate, read, set_attribute, remove_attribute, get_attribute, first_answer, file_rows, file_there, attribute_rows, attributes_there, unchanged, with_record_at, with_attributes_at}
+use Rattle.flat_model.specs.Operations.{Outcome, write, truncate, read, set_attribute, remove_attribute, get_attribute, first_answer, file_rows, file_there, attribute_rows, attributes_there, unchanged, with_record, with_record_of, with_record_at, with_attributes_at}
 use Rattle.flat_sub.specs.Ends.{ComesTo}
-use Rattle.flat_sub.specs.Editing.{with_record_of, with_attributes_of}
+use Rattle.flat_sub.specs.Editing.{with_attributes_of}
 use Rattle.flat_sub.proofs.Refusals.{refused, finished}
 use Rattle.flat_sub.proofs.Rows.{rows_decide, rows_pass, none_holds}
-use Rattle.flat_sub.proofs.Inodes.{number_there, record_there}
+use Rattle.flat_sub.proofs.Inodes.{number_there, record_there, record_put}
 
 -- the attributes of the inode to whose number a walk led
 attributes_at : (run : RunSub) (end : WalkEnd) (ino : ℕ) (attributes : Attributes) → ino_at end ≡ Some ino → with_attributes_at run end attributes ≡ with_attributes_of run ino attributes
 attributes_at run end ino attributes number =
     (λ i. elim (record_there run.sub end ino number i) as (λ o. RunSub) [ None ↦ run | Some inode ↦ with_record_at run end (with_attributes inode attributes) ])
     ∙ ap (λ (w : InodeRecord → RunSub). elim (get run.sub.inodes ino) as (λ o. RunSub) [ None ↦ run | Some inode ↦ w inode ]) (λ i. λ inode. elim (number i) as (λ o. RunSub) [ None ↦ run | Some k ↦ with_record_of run k (with_attributes inode attributes) ])
+    ∙ elim (get run.sub.inodes ino) as (λ o. get run.sub.inodes ino ≡ o → elim o as (λ o. RunSub) [ None ↦ run | Some inode ↦ with_record_of run ino (with_attributes inode attributes) ] ≡ elim o as (λ o. RunSub) [ None ↦ run | Some inode ↦ record run { sub = with_record run.sub ino (with_attributes inode attributes) } ]) [
+      | None ↦ λ e. refl
+      | Some inode ↦ λ e. record_put run ino inode (with_attributes inode attributes) e
+    ] refl
 
 module _ (run : RunSub) (path : List (List ℕ)) where
   abbrev place : WalkEnd

@@ -13,7 +13,7 @@ use Rattle.std.proofs.lemmas.Bool.{eqb-true, true≢false}
 use Rattle.flat_model.specs.declared.view.Kind.TheVariants.{File}
 use Rattle.flat_model.specs.Records.{InodeRecord, FileInode, DirInode, LinkInode, kind_of, is_dir_record, is_link_record}
 use Rattle.flat_model.specs.Contents.{bytes_read, byte_at}
-use Rattle.flat_model.specs.Operations.{no_file, attributes_there}
+use Rattle.flat_model.specs.Operations.{no_file, attributes_there, with_record, with_record_of}
 use Rattle.flat_model.specs.Volume.{Subvolume, RunSub}
 use Rattle.flat_model.specs.Walk.{WalkEnd, AtRoot, AtSlot, Missing, Blocked, ino_at, record_at, is_absent, is_blocked}
 use Rattle.flat_record.proofs.Tables.{FirstAt, position_first, position_none, find_first, find_nowhere, map_set}
@@ -81,3 +81,10 @@ with_inodes run inodes = record run { sub = record run.sub { inodes = inodes } }
 -- no attribute is among none
 pub no_attribute : (name : List ℕ) → get (attributes_there None) name ≡ None
 no_attribute name = get-empty (slice_cmp nat_cmp) name
+
+-- another record of an inode that is there, and of one that isn't
+pub record_put : (run : RunSub) (ino : ℕ) (old inode : InodeRecord) → get run.sub.inodes ino ≡ Some old → with_record_of run ino inode ≡ record run { sub = with_record run.sub ino inode }
+record_put run ino old inode there = ap (λ o. elim o as (λ o. RunSub) [ None ↦ run | Some was ↦ record run { sub = with_record run.sub ino inode } ]) there
+
+pub record_not_put : (run : RunSub) (ino : ℕ) (inode : InodeRecord) → get run.sub.inodes ino ≡ None → with_record_of run ino inode ≡ run
+record_not_put run ino inode nowhere = ap (λ o. elim o as (λ o. RunSub) [ None ↦ run | Some was ↦ record run { sub = with_record run.sub ino inode } ]) nowhere

@@ -8,16 +8,16 @@ ghost use Rattle.flat_model.specs.Names.{FlatName};
 ghost use Rattle.flat_model.specs.Records.{FileInode};
 ghost use Rattle.flat_model.specs.Volume.{is_dir_there, is_link_there};
 ghost use Rattle.flat_model.specs.Walk.{WalkEnd, record_at};
-ghost use Rattle.flat_model.specs.Operations.{write, truncate, read, set_attribute, remove_attribute, get_attribute, first_answer, file_rows, file_there, attributes_there};
+ghost use Rattle.flat_model.specs.Operations.{write, truncate, read, set_attribute, remove_attribute, get_attribute, first_answer, file_rows, file_there, with_record_of, attributes_there};
 ghost use Rattle.flat_sub.specs.View.{sub_view, IsWellKept};
 ghost use Rattle.flat_sub.specs.Ends.{IsEnd, ComesTo};
-ghost use Rattle.flat_sub.specs.Editing.{with_record_of, with_attributes_of};
+ghost use Rattle.flat_sub.specs.Editing.{with_attributes_of};
 
 use crate::sub::FlatSub;
 use crate::walk::End;
 use blk_base::{Name, OutOfMemory, Text};
 use flat_model::{Answer, Kind, Path};
-use flat_record::{Inode, place_of, put_entry};
+use flat_record::{Inode, place_of};
 use std::alloc::Global;
 
 /// The most bytes of a file (own).
@@ -76,19 +76,7 @@ impl FlatSub {
         None
     }
 
-    /// Puts an inode in its place, also in place of the one of its number.
-    fn put_record(&mut self, ino: u64, inode: Inode) -> Result<(), OutOfMemory>
-        requires { IsWellKept self.old }
-        ensures ok { OnOk result (sub_view self.new ≡ with_record_of (sub_view self.old) ino inode) }
-        ensures err { OnErr result (sub_view self.new ≡ sub_view self.old) }
-        ensures kept { IsWellKept self.new }
-    {
-        self.inodes.reserve(1)?;
-        put_entry(&mut self.inodes, ino, inode);
-        Ok(())
-    }
-
-    /// Writes a text from an offset on into the file of this number; where no inode has it, into an empty one.
+    /// Writes a text from an offset on into the file of this number, where an inode has it.
     fn write_at(
         &mut self,
         alloc: Global,
@@ -110,11 +98,7 @@ impl FlatSub {
                 let entry = &mut self.inodes[at];
                 entry.1.write(alloc, offset, text)
             }
-            None => {
-                let mut file = Inode::new(alloc, Kind::File, 0, Text::repeat(0, 0));
-                file.write(alloc, offset, text)?;
-                self.put_record(ino, file)
-            }
+            None => Ok(()),
         }
     }
 
@@ -144,46 +128,39 @@ impl FlatSub {
         Ok(Answer::Number(count))
     }
 
-    /// Gives the file of this number a size; where no inode has it, an empty one.
-    fn truncate_at(&mut self, alloc: Global, ino: u64, size: u64) -> Result<(), OutOfMemory>
+    /// Gives the file of this number a size, where an inode has it.
+    fn truncate_at(&mut self, ino: u64, size: u64)
         requires kept { IsWellKept self.old }
         requires no_dir { false ≡ is_dir_there (get (sub_view self.old).sub.inodes ino) }
         requires no_link { false ≡ is_link_there (get (sub_view self.old).sub.inodes ino) }
         requires few { size ≤ most_file_bytes }
-        ensures ok { OnOk result (sub_view self.new ≡ with_record_of (sub_view self.old) ino (FileInode (truncated (file_there (get (sub_view self.old).sub.inodes ino)) size))) }
-        ensures err { OnErr result (sub_view self.new ≡ sub_view self.old) }
+        ensures view { sub_view self.new ≡ with_record_of (sub_view self.old) ino (FileInode (truncated (file_there (get (sub_view self.old).sub.inodes ino)) size)) }
         ensures kept { IsWellKept self.new }
     {
         match place_of(&self.inodes, ino) {
             Some(at) => {
                 let entry = &mut self.inodes[at];
                 entry.1.truncate(size);
-                Ok(())
             }
-            None => {
-                let mut file = Inode::new(alloc, Kind::File, 0, Text::repeat(0, 0));
-                file.truncate(size);
-                self.put_record(ino, file)
-            }
+            None => {}
         }
     }
 
-    /// Sets the size of a file, in bytes.
-    pub fn truncate(&mut self, alloc: Global, path: &Path, size: u64) -> Result<Answer, OutOfMemory>
+    /// Sets the size of a file, in bytes. Takes no memory.
+    pub fn truncate(&mut self, path: &Path, size: u64) -> Answer
         requires { IsWellKept self.old }
-        ensures done { IfOk result (ComesTo (truncate (sub_view self.old) path.now size) (sub_view self.new)) }
-        ensures err { OnErr result (sub_view self.new ≡ sub_view self.old) }
+        ensures done { ComesTo (truncate (sub_view self.old) path.now size) (sub_view self.new) result }
         ensures kept { IsWellKept self.new }
     {
         let end = self.walk(path);
         if let Some(answer) = self.file_refusal(end) {
-            return Ok(answer);
+            return answer;
         }
         if size > MOST_FILE_BYTES {
-            return Ok(Answer::TooLarge);
+            return Answer::TooLarge;
         }
-        self.truncate_at(alloc, end.ino(), size)?;
-        Ok(Answer::Plain)
+        self.truncate_at(end.ino(), size);
+        Answer::Plain
     }
 
     /// Reads from the file of this number; where no inode has it, from an empty one.

@@ -11,7 +11,7 @@ use Rattle.flat_model.specs.declared.op.Op.{Op}
 use Rattle.flat_model.specs.Records.{InodeRecord}
 use Rattle.flat_model.specs.Names.{FlatName}
 use Rattle.flat_model.specs.Volume.{RunNumbers, RunSub, RunVolume}
-use Rattle.flat_model.specs.Step.{place_of}
+use Rattle.flat_model.specs.Step.{is_within_sub, outcome_of, place_of}
 use Rattle.flat_model.proofs.Maps.{insert_same}
 use Rattle.flat_record.proofs.Tables.{position_first, position_none, position_below, find_first, find_nowhere, map_set}
 use Rattle.flat_sub.specs.declared.sub.FlatSub.{FlatSub}
@@ -19,7 +19,7 @@ use Rattle.flat_sub.specs.View.{sub_view, IsWellKept}
 use Rattle.flat_sub.specs.Ends.{ComesTo}
 use Rattle.flat_volume.specs.View.{volume_view, AreWellKept}
 use Rattle.flat_volume.specs.Building.{at_inode, record_in}
-use Rattle.flat_volume.specs.Operated.{is_within_sub, operated}
+use Rattle.flat_volume.specs.Indexes.{indexes_above}
 use Rattle.flat_volume.specs.Applying.{IsApplied}
 use Rattle.flat_volume.proofs.Views.{key_at, view_at, view_set}
 use Rattle.flat_volume.proofs.Choosing.{applied_within}
@@ -65,7 +65,7 @@ record_nowhere run id ino nowhere = ap (λ o. elim o [ None ↦ None | Some s �
 -- an operation was carried out in the subvolume of its places
 pub applied_at : (subs : List (ℕ × FlatSub)) (at : ℕ) (op : Op) (id : SubId) (lent : ℕ × FlatSub) (new : FlatSub) (answer : Answer)
     → id ≡ (place_of op).sub → is_within_sub op ≡ true → position (λ (e : ℕ × FlatSub). e.0 == id.0) subs ≡ Some at → lent ≡ get_or subs at lent → AreWellKept subs
-    → ComesTo (operated (sub_view lent.1) op (lent.1.last_index + 1) (lent.1.last_index + 2)) (sub_view new) answer → IsApplied (volume_view subs) (volume_view (set subs at (lent.0, new))) op answer
+    → ComesTo (outcome_of (sub_view lent.1) op (indexes_above lent.1.last_index)) (sub_view new) answer → IsApplied (volume_view subs) (volume_view (set subs at (lent.0, new))) op answer
 applied_at subs at op id lent new answer id_is within place is kept comes =
     let run : RunVolume = volume_view subs in
     let key_is : id.0 ≡ (place_of op).sub.0 = ap (λ (s : SubId). s.0) id_is in

@@ -9,7 +9,7 @@ use Rattle.std.specs.Option.{unwrap_or}
 use Rattle.flat_model.specs.Records.{Attributes, InodeRecord, FileInode, new_file, new_dir, new_link}
 use Rattle.flat_model.specs.Walk.{walk, ino_at, record_at, is_absent, is_blocked}
 use Rattle.flat_model.specs.Operations.{Outcome, unless_refused, unlink_rows, rmdir_rows, removal_done, file_rows, file_there, with_record_at, attributes_there, with_attributes_at, attribute_rows, new_name, without_entry, names_without, make_rows, make_done, link_rows, link_done, rename_rows, rename_done, exchange_rows, exchange_done, make, link, unlink, rmdir, rename, exchange, lookup, write, truncate, read, set_attribute, remove_attribute, get_attribute}
-use Rattle.flat_model.specs.Step.{VolumeOutcome, IsNextIndex, AreNextIndexes, at_place, volume_unchanged, numbers_in, place_of, step}
+use Rattle.flat_model.specs.Step.{VolumeOutcome, IsNextIndex, AreNextIndexes, is_within_sub, outcome_of, outcome_within, with_outcome, volume_unchanged, numbers_in, place_of, step}
 use Rattle.flat_model.specs.declared.answer.Answer.{Answer}
 use Rattle.flat_model.specs.declared.answer.Answer.TheVariants.{Plain, Number, Bytes, NoEnt, NotDir, TooLarge, Collide, Xdev}
 use Rattle.std.specs.Bool.{nat_lt}
@@ -18,27 +18,9 @@ use Rattle.blk_base.specs.Crc.{name_hash_of}
 use Rattle.flat_model.specs.Contents.{most_file_bytes, bytes_read, written, truncated}
 use Rattle.flat_model.specs.Lengths.{most_item_bytes, xattr_item_length}
 use Rattle.flat_volume.specs.Applying.{IsApplied}
+use Rattle.flat_model.proofs.Steps.{numbers_there}
 use Rattle.flat_model.proofs.Fresh.{outcome_cases, last_index_note_same, last_index_note_other}
-use Rattle.flat_volume.specs.Operated.{is_within_sub, operated, indexes_above}
-
--- an operation is one in the subvolume of its places
-pub step_within : (run : RunVolume) (op : Op) (last : ℕ) → step run op (indexes_above last) ≡ cond (is_within_sub op) (at_place run (place_of op) (λ sub. operated sub op (last + 1) (last + 2))) (volume_unchanged run Xdev)
-unfolding step
-step_within run (Create place) last = refl
-step_within run (Mkdir place) last = refl
-step_within run (Symlink place target) last = refl
-step_within run (Link old new) last = refl
-step_within run (Unlink place) last = refl
-step_within run (Rmdir place) last = refl
-step_within run (Rename old new) last = refl
-step_within run (Exchange one two) last = refl
-step_within run (Lookup place) last = refl
-step_within run (Write place offset text) last = refl
-step_within run (Truncate place size) last = refl
-step_within run (Read place offset count) last = refl
-step_within run (SetAttr place name value) last = refl
-step_within run (DelAttr place name) last = refl
-step_within run (GetAttr place name) last = refl
+use Rattle.flat_volume.specs.Indexes.{indexes_above}
 
 -- the greatest index of no directory is above that of the subvolume
 abbrev pub IsCovered : RunNumbers → Type 0
@@ -159,60 +141,59 @@ module _ (run : RunSub) (covered : IsCovered run.numbers) where
       none_may (attribute_rows run place name) run (Bytes (unwrap_or (get (attributes_there (record_at run.sub place)) name) []))
 
   -- the names that an operation makes may have the next two indexes
-  pub operated_may : (op : Op) → AreNextIndexes run.numbers (operated run op (run.numbers.last_index + 1) (run.numbers.last_index + 2)).made
-  operated_may (Create place) = make_may place.path new_file
-  operated_may (Mkdir place) = make_may place.path new_dir
-  operated_may (Symlink place target) = make_may place.path (new_link target)
-  operated_may (Link old new) = link_may old.path new.path
-  operated_may (Unlink place) = unlink_may place.path
-  operated_may (Rmdir place) = rmdir_may place.path
-  operated_may (Rename old new) = rename_may old.path new.path
-  operated_may (Exchange one two) = exchange_may one.path two.path
-  operated_may (Lookup place) = lookup_may place.path
-  operated_may (Write place offset text) = write_may place.path offset text
-  operated_may (Truncate place size) = truncate_may place.path size
-  operated_may (Read place offset count) = read_may place.path offset count
-  operated_may (SetAttr place name value) = set_may place.path name value
-  operated_may (DelAttr place name) = remove_may place.path name
-  operated_may (GetAttr place name) = get_may place.path name
+  pub outcome_may : (op : Op) → AreNextIndexes run.numbers (outcome_of run op (indexes_above run.numbers.last_index)).made
+  outcome_may (Create place) = make_may place.path new_file
+  outcome_may (Mkdir place) = make_may place.path new_dir
+  outcome_may (Symlink place target) = make_may place.path (new_link target)
+  outcome_may (Link old new) = link_may old.path new.path
+  outcome_may (Unlink place) = unlink_may place.path
+  outcome_may (Rmdir place) = rmdir_may place.path
+  outcome_may (Rename old new) = rename_may old.path new.path
+  outcome_may (Exchange one two) = exchange_may one.path two.path
+  outcome_may (Lookup place) = lookup_may place.path
+  outcome_may (Write place offset text) = write_may place.path offset text
+  outcome_may (Truncate place size) = truncate_may place.path size
+  outcome_may (Read place offset count) = read_may place.path offset count
+  outcome_may (SetAttr place name value) = set_may place.path name value
+  outcome_may (DelAttr place name) = remove_may place.path name
+  outcome_may (GetAttr place name) = get_may place.path name
 
 -- what is at a place in a volume, as one that is there is changed
 pub applied_within : (run : RunVolume) (sub : RunSub) (op : Op) → get run (place_of op).sub.0 ≡ Some sub → is_within_sub op ≡ true → IsCovered sub.numbers → (new : RunVolume) (after : RunSub) (answer : Answer)
-    → new ≡ insert run (place_of op).sub.0 after → after ≡ (operated sub op (sub.numbers.last_index + 1) (sub.numbers.last_index + 2)).next → answer ≡ (operated sub op (sub.numbers.last_index + 1) (sub.numbers.last_index + 2)).answer → IsApplied run new op answer
+    → new ≡ insert run (place_of op).sub.0 after → after ≡ (outcome_of sub op (indexes_above sub.numbers.last_index)).next → answer ≡ (outcome_of sub op (indexes_above sub.numbers.last_index)).answer → IsApplied run new op answer
+unfolding step
 applied_within run sub op there within covered new after answer new_is after_is answer_is =
-    let last = sub.numbers.last_index in
-    let outcome : Outcome = operated sub op (last + 1) (last + 2) in
-    let comes : step run op (indexes_above last) ≡ record { next = insert run (place_of op).sub.0 outcome.next; answer = outcome.answer; made = outcome.made } =
-    step_within run op last ∙ ap (λ b. cond b (at_place run (place_of op) (λ s. operated s op (last + 1) (last + 2))) (volume_unchanged run Xdev)) within
-    ∙ ap (λ o. elim o [ None ↦ volume_unchanged run NoEnt | Some s ↦ let done = operated s op (last + 1) (last + 2) in record { next = insert run (place_of op).sub.0 done.next; answer = done.answer; made = done.made } ]) there in
+    let indexes : List ℕ = indexes_above sub.numbers.last_index in
+    let id : ℕ = (place_of op).sub.0 in
+    let outcome : Outcome = outcome_of sub op indexes in
+    let comes : step run op indexes ≡ with_outcome run id outcome =
+    ap (λ b. cond b (outcome_within run op indexes) (volume_unchanged run Xdev)) within
+    ∙ ap (λ o. elim o [ None ↦ volume_unchanged run NoEnt | Some s ↦ with_outcome run id (outcome_of s op indexes) ]) there in
     record {
-      indexes = indexes_above last;
-      next_indexes = subst (λ (o : VolumeOutcome). AreNextIndexes (numbers_in run (place_of op).sub.0) o.made) (sym comes)
-          (subst (λ numbers. AreNextIndexes numbers outcome.made) (sym (ap (λ o. elim o [ None ↦ bare_numbers | Some s ↦ s.numbers ]) there)) (operated_may sub covered op));
-      next = new_is ∙ ap (insert run (place_of op).sub.0) after_is ∙ sym (ap (λ (o : VolumeOutcome). o.next) comes);
+      indexes = indexes;
+      next_indexes = subst (λ (o : VolumeOutcome). AreNextIndexes (numbers_in run id) o.made) (sym comes)
+          (subst (λ numbers. AreNextIndexes numbers outcome.made) (sym (numbers_there run id sub there)) (outcome_may sub covered op));
+      next = new_is ∙ ap (insert run id) after_is ∙ sym (ap (λ (o : VolumeOutcome). o.next) comes);
       said = answer_is ∙ sym (ap (λ (o : VolumeOutcome). o.answer) comes);
     }
 
+-- an operation that makes no name and changes nothing
+unchanged_applied : (run : RunVolume) (op : Op) (answer : Answer) → step run op [] ≡ volume_unchanged run answer → IsApplied run run op answer
+unchanged_applied run op answer comes = record {
+  indexes = [];
+  next_indexes = subst (λ (o : VolumeOutcome). AreNextIndexes (numbers_in run (place_of op).sub.0) o.made) (sym comes) tt;
+  next = sym (ap (λ (o : VolumeOutcome). o.next) comes);
+  said = sym (ap (λ (o : VolumeOutcome). o.answer) comes);
+}
+
 -- the two places are of two subvolumes
 pub applied_across : (run : RunVolume) (op : Op) → is_within_sub op ≡ false → IsApplied run run op Xdev
-applied_across run op across =
-    let comes : step run op (indexes_above 0) ≡ volume_unchanged run Xdev = step_within run op 0 ∙ ap (λ b. cond b (at_place run (place_of op) (λ s. operated s op 1 2)) (volume_unchanged run Xdev)) across in
-    record {
-      indexes = indexes_above 0;
-      next_indexes = subst (λ (o : VolumeOutcome). AreNextIndexes (numbers_in run (place_of op).sub.0) o.made) (sym comes) tt;
-      next = sym (ap (λ (o : VolumeOutcome). o.next) comes);
-      said = sym (ap (λ (o : VolumeOutcome). o.answer) comes);
-    }
+unfolding step
+applied_across run op across = unchanged_applied run op Xdev (ap (λ b. cond b (outcome_within run op []) (volume_unchanged run Xdev)) across)
 
 -- the subvolume isn't there
 pub applied_nowhere : (run : RunVolume) (op : Op) → is_within_sub op ≡ true → get run (place_of op).sub.0 ≡ None → IsApplied run run op NoEnt
+unfolding step
 applied_nowhere run op within nowhere =
-    let comes : step run op (indexes_above 0) ≡ volume_unchanged run NoEnt =
-    step_within run op 0 ∙ ap (λ b. cond b (at_place run (place_of op) (λ s. operated s op 1 2)) (volume_unchanged run Xdev)) within
-    ∙ ap (λ o. elim o [ None ↦ volume_unchanged run NoEnt | Some s ↦ let done = operated s op 1 2 in record { next = insert run (place_of op).sub.0 done.next; answer = done.answer; made = done.made } ]) nowhere in
-    record {
-      indexes = indexes_above 0;
-      next_indexes = subst (λ (o : VolumeOutcome). AreNextIndexes (numbers_in run (place_of op).sub.0) o.made) (sym comes) tt;
-      next = sym (ap (λ (o : VolumeOutcome). o.next) comes);
-      said = sym (ap (λ (o : VolumeOutcome). o.answer) comes);
-    }
+    unchanged_applied run op NoEnt (ap (λ b. cond b (outcome_within run op []) (volume_unchanged run Xdev)) within
+    ∙ ap (λ o. elim o [ None ↦ volume_unchanged run NoEnt | Some s ↦ with_outcome run (place_of op).sub.0 (outcome_of s op []) ]) nowhere)

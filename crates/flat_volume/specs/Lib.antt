@@ -1,4 +1,4 @@
 pub mod View
 pub mod Building
-pub mod Operated
+pub mod Indexes
 pub mod Applying

@@ -1,10 +1,10 @@
 //! An operation carried out on a volume.
-ghost use Rattle.std.specs.Prelude.{◌≡◌, ◌↔◌, ◌+◌, IsTrue, IfOk, OnErr, List, [], ◌∷◌};
-ghost use Rattle.flat_model.specs.Step.{IsInLimits, place_of};
+ghost use Rattle.std.specs.Prelude.{◌≡◌, ◌↔◌, IsTrue, IfOk, OnErr};
+ghost use Rattle.flat_model.specs.Step.{IsInLimits, is_within_sub, outcome_of, place_of};
 ghost use Rattle.flat_model.specs.Records.{new_file, new_dir, new_link};
 ghost use Rattle.flat_sub.specs.View.{sub_view, IsWellKept};
 ghost use Rattle.flat_sub.specs.Ends.{ComesTo};
-ghost use Rattle.flat_volume.specs.Operated.{is_within_sub, operated};
+ghost use Rattle.flat_volume.specs.Indexes.{indexes_above};
 ghost use Rattle.flat_volume.specs.Applying.{IsApplied};
 
 use crate::FlatVolume;
@@ -82,7 +82,7 @@ pub(crate) fn is_within_sub(op: &Op) -> bool
 pub(crate) fn operate(sub: &mut FlatSub, alloc: Global, op: &Op) -> Result<Answer, OutOfMemory>
     requires kept { IsWellKept sub.old }
     requires limits { IsInLimits op.now }
-    ensures done { IfOk result (ComesTo (operated (sub_view sub.old) op.now (sub.old.last_index + 1) (sub.old.last_index + 2)) (sub_view sub.new)) }
+    ensures done { IfOk result (ComesTo (outcome_of (sub_view sub.old) op.now (indexes_above sub.old.last_index)) (sub_view sub.new)) }
     ensures err { OnErr result (sub_view sub.new ≡ sub_view sub.old) }
     ensures kept { IsWellKept sub.new }
 {
@@ -108,7 +108,7 @@ pub(crate) fn operate(sub: &mut FlatSub, alloc: Global, op: &Op) -> Result<Answe
         Op::Exchange(one, two) => sub.exchange(alloc, &one.path, &two.path),
         Op::Lookup(place) => Ok(sub.lookup(&place.path)),
         Op::Write(place, offset, text) => sub.write(alloc, &place.path, *offset, text),
-        Op::Truncate(place, size) => sub.truncate(alloc, &place.path, *size),
+        Op::Truncate(place, size) => Ok(sub.truncate(&place.path, *size)),
         Op::Read(place, offset, count) => sub.read(alloc, &place.path, *offset, *count),
         Op::SetAttr(place, name, value) => sub.set_attribute(alloc, &place.path, name, value),
         Op::DelAttr(place, name) => Ok(sub.remove_attribute(&place.path, name)),

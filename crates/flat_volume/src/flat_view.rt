@@ -1,7 +1,8 @@
 //! A subvolume of a flat volume as its names and kinds are seen.
 ghost use Rattle.std.specs.Prelude.{◌≡◌, ◌&&◌, ℕ, List, IfOk, IsPermutation, option_map, filter, find, map, nat_eq, bytes_eq};
+ghost use Rattle.blk_base.specs.Crc.{name_hash_of};
 
-use blk_base::{Ino, OutOfMemory};
+use blk_base::{Ino, OutOfMemory, name_hash};
 use flat_model::{NameAt, NameView};
 use flat_sub::FlatSub;
 use std::alloc::Global;
@@ -53,6 +54,31 @@ fn standing(alloc: Global, names: &Vec<NameAt>, dir: Ino) -> Result<Vec<NameAt>,
     Ok(found)
 }
 
+/// Whether a directory has a name, and its bytes have this hash.
+fn is_hashed_in(at: &NameAt, dir: Ino, hash: u32) -> bool
+    ensures { result ≡ (nat_eq at.now.dir.0 dir.0 && nat_eq (name_hash_of at.now.name) hash) }
+{
+    at.dir == dir && name_hash(at.name.as_bytes()) == hash
+}
+
+/// Those of these names that a directory has and whose bytes have this hash, in their order.
+fn hashed_in(
+    alloc: Global,
+    names: &Vec<NameAt>,
+    dir: Ino,
+    hash: u32,
+) -> Result<Vec<NameAt>, OutOfMemory>
+    ensures { IfOk result (λ found. found.items ≡ filter (λ at. nat_eq at.dir.0 dir.0 && nat_eq (name_hash_of at.name) hash) names.now.items) }
+{
+    let mut found = Vec::new(alloc);
+    for at in names {
+        if is_hashed_in(at, dir, hash) {
+            found.push(at.copy(alloc)?)?;
+        }
+    }
+    Ok(found)
+}
+
 /// The inode to which the first of these names in a slot leads, a slot being a directory and bytes.
 fn in_slot(names: &Vec<NameAt>, dir: Ino, bytes: &[u8]) -> Option<Ino>
     ensures { result ≡ option_map (λ at. at.ino) (find (λ at. nat_eq at.dir.0 dir.0 && bytes_eq at.name bytes.now) names.now.items) }
@@ -75,6 +101,10 @@ impl<'a> NameView for FlatView<'a> {
 
     fn entries(&self, alloc: Global, dir: Ino) -> Result<Vec<NameAt>, OutOfMemory> {
         standing(alloc, &self.sub.names, dir)
+    }
+
+    fn hashed(&self, alloc: Global, dir: Ino, hash: u32) -> Result<Vec<NameAt>, OutOfMemory> {
+        hashed_in(alloc, &self.sub.names, dir, hash)
     }
 
     fn slot(&self, dir: Ino, name: &[u8]) -> Option<Ino> {

@@ -7,16 +7,16 @@ use Rattle.leaf_sync.specs.declared.store.LeafStore.{LeafStore}
 use Rattle.leaf_sync.specs.Sync.{Holds}
 use Rattle.io_edge.specs.Edge.{Takes, TakesFront}
 use Rattle.io_edge.proofs.Sinks.{Takes-joins, TakesFront-behind}
-use Rattle.script_text.specs.declared.script.Line.{Line}
-use Rattle.script_text.specs.declared.script.Line.TheVariants.{Plain}
-use Rattle.script_text.specs.declared.script.Request.{Request}
-use Rattle.script_text.specs.declared.script.Request.TheVariants as requests
+use Rattle.flat_model.specs.declared.request.Line.{Line}
+use Rattle.flat_model.specs.declared.request.Line.TheVariants.{Plain}
+use Rattle.flat_model.specs.declared.request.Request.{Request}
+use Rattle.flat_model.specs.declared.request.Request.TheVariants as requests
 use Rattle.script_answer.specs.Words.{answer_line, done_line}
 use Rattle.leaf_run.specs.Run.{AreCalls, CallLeaves, Finished, IsCall, Kept, LeavesKept, RunLeaves, State, state_after}
 use Rattle.leaf_run.proofs.Syncs.{held_kept}
 use Rattle.leaf_lines.specs.declared.fault.RunFault.{RunFault}
 use Rattle.leaf_lines.specs.declared.fault.RunFault.TheVariants as faults
-use Rattle.leaf_lines.specs.Lines.{FailsInLine, HasRun, IsRunText, calls_text, caller_of, request_of}
+use Rattle.leaf_lines.specs.Lines.{FailsInLine, HasRun, IsRunText, calls_text}
 
 -- ---- one call more
 
@@ -26,6 +26,7 @@ calls_more before [] [] caller request call are is = (is, tt)
 calls_more before [] (first ∷ calls) caller request call are is = absurd are
 calls_more before (line ∷ lines) [] caller request call are is = absurd are
 calls_more before (Plain asker asked ∷ lines) (first ∷ calls) caller request call are is = (are.0, calls_more first.after lines calls caller request call are.1 is)
+calls_more before (line ∷ lines) (first ∷ calls) caller request call are is = absurd are
 
 pub state_more : (before : State) (calls : List Finished) (call : Finished) → state_after before (calls ++ call ∷ []) ≡ call.after
 state_more before [] call = refl
@@ -38,6 +39,7 @@ text_more before [] (first ∷ calls) caller request call are = absurd are
 text_more before (line ∷ lines) [] caller request call are = absurd are
 text_more before (Plain asker asked ∷ lines) (first ∷ calls) caller request call are =
     ap (λ (text : List ℕ). answer_line asker first.answer ++ text) (text_more first.after lines calls caller request call are.1) ∙ sym (append_assoc (answer_line asker first.answer) (calls_text lines calls) (answer_line caller call.answer))
+text_more before (line ∷ lines) (first ∷ calls) caller request call are = absurd are
 
 -- ---- crashes
 
@@ -48,6 +50,7 @@ Leads kept before [] (call ∷ calls) last = ⊥
 Leads kept before (line ∷ lines) [] last = ⊥
 Leads kept before (Plain caller request ∷ lines) (call ∷ calls) last =
     LeavesKept kept before.told × ((after : Kept) × CallLeaves kept before request call after × Leads after call.after lines calls last)
+Leads kept before (line ∷ lines) (call ∷ calls) last = ⊥
 
 pub leads_more : (kept mid last : Kept) (before : State) (lines : List Line) (calls : List Finished) (caller : ℕ) (request : Request) (call : Finished)
     → Leads kept before lines calls mid → LeavesKept mid (state_after before calls).told → CallLeaves mid (state_after before calls) request call last
@@ -58,12 +61,14 @@ leads_more kept mid last before [] (first ∷ calls) caller request call leads l
 leads_more kept mid last before (line ∷ lines) [] caller request call leads leaves more = absurd leads
 leads_more kept mid last before (Plain asker asked ∷ lines) (first ∷ calls) caller request call (now, (after, during, then)) leaves more =
     (now, (after, during, leads_more after mid last first.after lines calls caller request call then leaves more))
+leads_more kept mid last before (line ∷ lines) (first ∷ calls) caller request call leads leaves more = absurd leads
 
 pub leads_to_end : (kept last : Kept) (before : State) (lines : List Line) (calls : List Finished) → Leads kept before lines calls last → LeavesKept last (state_after before calls).told → RunLeaves kept before lines calls
 leads_to_end kept last before [] [] leads leaves = subst (λ (k : Kept). LeavesKept k before.told) leads leaves
 leads_to_end kept last before [] (call ∷ calls) leads leaves = absurd leads
 leads_to_end kept last before (line ∷ lines) [] leads leaves = absurd leads
 leads_to_end kept last before (Plain caller request ∷ lines) (call ∷ calls) (now, (after, during, then)) leaves = (now, (after, during, leads_to_end after last call.after lines calls then leaves))
+leads_to_end kept last before (line ∷ lines) (call ∷ calls) leads leaves = absurd leads
 
 -- what a store holds is kept
 pub held_told : (told : Option Told) (store : LeafStore) (kept : Kept) → IfTold told (λ told. Holds told store kept.last kept.failed) → LeavesKept kept told
@@ -102,15 +107,12 @@ done_same lines before mid now store store_mid store_now P same same_store done 
 pub counted : (before : State) (request : Request) (call : Finished) → IsCall before request call → before.faults ≤ call.after.faults
 counted before (requests.Op op) call is = omega (arith, is.2)
 counted before requests.Sync call is = is.1.0
+counted before request call is = absurd is
 
 -- an error that was handed on
 pub err_is : {T E : Type 0} (result : Result T E) (fault : E) → IsErrAnd result (λ error. error ≡ fault) → result ≡ Err fault
 err_is (Ok value) fault is = absurd is
 err_is (Err error) fault is = ap Err is
-
--- a line is its caller and what it asks for
-pub line_is : (line : Line) (caller : ℕ) (request : Request) → caller ≡ caller_of line → request ≡ request_of line → line ≡ Plain caller request
-line_is (Plain asker asked) caller request same_caller same_request = λ i. Plain (sym same_caller i) (sym same_request i)
 
 module _ (lines : List Line) (before mid : State) (store store_mid store_now : LeafStore) (P Q : List Line → List Finished → Type 0) (caller : ℕ) (request : Request) (call : Finished) (is : IsCall mid request call) (lead : Lead mid store_mid request call store_now) (more : (calls : List Finished) → AreCalls before lines calls → P lines calls → Q (lines ++ Plain caller request ∷ []) (calls ++ call ∷ [])) (done : AreDone lines before mid store store_mid P) where
   crash_more : (kept : Kept) → IfTold before.told (λ told. Holds told store kept.last kept.failed)

@@ -1,9 +1,9 @@
 -- What a run of a script's lines comes to, and its text.
 use Rattle.std.specs.Prelude.{◌≡◌, ◌⊎◌, ℕ, List, [], ◌∷◌, ◌++◌, length, All, Option, Result, Ok, Err}
 use Rattle.io_edge.specs.Edge.{Takes, TakesFront}
-use Rattle.script_text.specs.declared.script.Line.{Line}
-use Rattle.script_text.specs.declared.script.Line.TheVariants.{Plain}
-use Rattle.script_text.specs.declared.script.Request.{Request}
+use Rattle.flat_model.specs.declared.request.Line.{Line}
+use Rattle.flat_model.specs.declared.request.Line.TheVariants.{Plain, Start, Step, End}
+use Rattle.flat_model.specs.declared.request.Request.{Request}
 use Rattle.script_answer.specs.Words.{answer_line, done_line}
 use Rattle.leaf_run.specs.Run.{AreCalls, Finished, IsAllowedRequest, State, state_after}
 use Rattle.leaf_lines.specs.declared.fault.RunFault.{RunFault}
@@ -12,14 +12,18 @@ use Rattle.leaf_lines.specs.declared.fault.RunFault.TheVariants as faults
 -- a line's caller
 abbrev pub caller_of : Line → ℕ
 caller_of (Plain caller request) = caller
+caller_of (Start caller request) = caller
+caller_of (Step caller) = caller
+caller_of (End caller) = caller
 
--- what a line asks for
-abbrev pub request_of : Line → Request
-request_of (Plain caller request) = request
+-- a line that this run carries out: a call that begins and ends, of a request that may be called
+abbrev pub IsAllowedLine : Line → Type 0
+IsAllowedLine (Plain caller request) = IsAllowedRequest request
+IsAllowedLine line = ⊥
 
--- each line's request is one that may be called
+-- each line is one that this run carries out
 abbrev pub AreAllowed : List Line → Type 0
-AreAllowed lines = All (λ line. IsAllowedRequest (request_of line)) lines
+AreAllowed lines = All IsAllowedLine lines
 
 -- the calls of a script that have finished: those of its first lines, in order (own)
 pub record HasRun (lines : List Line) (before after : State) : Type 0 where
@@ -32,8 +36,8 @@ pub record HasRun (lines : List Line) (before after : State) : Type 0 where
 
 -- the lines of the text for these calls, one for each (own)
 abbrev pub calls_text : List Line → List Finished → List ℕ
-calls_text (Plain caller request ∷ lines) (call ∷ calls) = answer_line caller call.answer ++ calls_text lines calls
-calls_text (Plain caller request ∷ lines) [] = []
+calls_text (line ∷ lines) (call ∷ calls) = answer_line (caller_of line) call.answer ++ calls_text lines calls
+calls_text (line ∷ lines) [] = []
 calls_text [] calls = []
 
 -- the whole text of a script's run (own)

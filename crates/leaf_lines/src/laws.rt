@@ -1,6 +1,6 @@
 //! Laws on the lines of a script, as contracts of functions that do nothing.
 ghost use Rattle.std.specs.Prelude.{◌≡◌, ℕ, List, Ok};
-ghost use Rattle.script_text.specs.declared.script.Line.{Line};
+ghost use Rattle.flat_model.specs.declared.request.Line.{Line};
 ghost use Rattle.script_text.specs.Script.{script_of};
 ghost use Rattle.leaf_lines.specs.Lines.{AreAllowed};
 

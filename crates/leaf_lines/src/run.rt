@@ -3,7 +3,8 @@ ghost use Rattle.std.specs.Prelude.{◌≡◌, ◌≤◌, Err};
 ghost use Rattle.disk_model.specs.Disk.{IfTold};
 ghost use Rattle.leaf_sync.specs.Sync.{HasRisen, Holds};
 ghost use Rattle.leaf_run.specs.Run.{IsRunning, Kept, RunLeaves, state_of};
-ghost use Rattle.leaf_lines.specs.Lines.{AreAllowed, HasRun, IsRunText, caller_of, request_of};
+ghost use Rattle.flat_model.specs.declared.request.Line.TheVariants.{Plain};
+ghost use Rattle.leaf_lines.specs.Lines.{AreAllowed, HasRun, IsAllowedLine, IsRunText};
 
 use crate::fault::RunFault;
 use disk_model::Disk;
@@ -13,21 +14,14 @@ use script_answer::{put_answer, put_done};
 use script_text::{Line, Request};
 use std::alloc::Global;
 
-/// The caller of a line.
-fn caller_of(line: &Line) -> u32
-    ensures { result ≡ caller_of line.now }
+/// The caller of a line, and what it asks for.
+fn plain_of(line: &Line) -> (u32, &Request)
+    requires { IsAllowedLine line.now }
+    ensures { line.now ≡ Plain result.0 result.1.now }
 {
     match line {
-        Line::Plain(caller, _) => *caller,
-    }
-}
-
-/// What a line asks for.
-fn request_of(line: &Line) -> &Request
-    ensures { result.now ≡ request_of line.now }
-{
-    match line {
-        Line::Plain(_, request) => request,
+        Line::Plain(caller, request) => (*caller, request),
+        Line::Start(_, _) | Line::Step(_) | Line::End(_) => unreachable!(),
     }
 }
 
@@ -56,8 +50,9 @@ pub fn run_lines<K: Sink, D: Disk>(
     ensures sink_fault { result ≡ Err RunFault.Sink → HasRisen (K.faults to.old) (K.faults to.new) }
 {
     for line in lines {
-        let answer = run.call(alloc, disk, request_of(line))?;
-        put_answer(to, caller_of(line), &answer)?;
+        let (caller, request) = plain_of(line);
+        let answer = run.call(alloc, disk, request)?;
+        put_answer(to, caller, &answer)?;
     }
     put_done(to, lines.len() as u64)?;
     Ok(())

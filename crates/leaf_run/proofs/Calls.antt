@@ -5,8 +5,8 @@ use Rattle.disk_model.specs.Disk.{Told, IfTold}
 use Rattle.blk_base.specs.declared.fault.OutOfMemory.{OutOfMemory}
 use Rattle.leaf_sync.specs.declared.store.LeafStore.{LeafStore}
 use Rattle.leaf_sync.specs.Sync.{Holds}
-use Rattle.script_text.specs.declared.script.Request.{Request}
-use Rattle.script_text.specs.declared.script.Request.TheVariants as requests
+use Rattle.flat_model.specs.declared.request.Request.{Request}
+use Rattle.flat_model.specs.declared.request.Request.TheVariants as requests
 use Rattle.script_answer.specs.declared.answer.FirstAnswer.{FirstAnswer}
 use Rattle.leaf_run.specs.declared.run.LeafRun.{LeafRun}
 use Rattle.leaf_run.specs.Run.{CallLeaves, Kept, state_of}

@@ -6,7 +6,7 @@ use Rattle.flat_model.specs.Volume.{RunVolume, volume_of}
 use Rattle.flat_model.specs.Running.{IsSoundVolume}
 use Rattle.flat_model.specs.Step.{IsInLimits, IsSpelled}
 use Rattle.flat_model.proofs.Steps.{step_sound}
-use Rattle.flat_laws.specs.Refusal.{is_refusal}
+use Rattle.flat_model.specs.Refusal.{is_refusal}
 use Rattle.flat_laws.proofs.Refusals.{step_refused}
 use Rattle.flat_volume.specs.Applying.{IsApplied}
 use Rattle.one_leaf.specs.OneLeaf.{IsOneLeaf}

@@ -6,16 +6,16 @@ use Rattle.flat_model.specs.declared.op.Op.{Op}
 use Rattle.flat_model.specs.Volume.{Volume, RunVolume, volume_of}
 use Rattle.flat_model.specs.Running.{IsSoundVolume}
 use Rattle.flat_model.specs.Step.{IsInLimits}
-use Rattle.flat_laws.specs.Refusal.{is_refusal}
+use Rattle.flat_model.specs.Refusal.{is_refusal}
 use Rattle.flat_volume.specs.Applying.{IsApplied}
 use Rattle.one_leaf.specs.OneLeaf.{IsOneLeaf}
 use Rattle.disk_model.specs.Disk.{Image, Told, Leaves, IfTold, AtEveryMoment, held_now}
 use Rattle.volume_image.specs.Stands.{Stands}
 use Rattle.leaf_sync.specs.Sync.{HasRisen, IsStore, StandsForOne, StandsForSome}
-use Rattle.script_text.specs.declared.script.Line.{Line}
-use Rattle.script_text.specs.declared.script.Line.TheVariants.{Plain}
-use Rattle.script_text.specs.declared.script.Request.{Request}
-use Rattle.script_text.specs.declared.script.Request.TheVariants as requests
+use Rattle.flat_model.specs.declared.request.Line.{Line}
+use Rattle.flat_model.specs.declared.request.Line.TheVariants.{Plain}
+use Rattle.flat_model.specs.declared.request.Request.{Request}
+use Rattle.flat_model.specs.declared.request.Request.TheVariants as requests
 use Rattle.script_answer.specs.declared.answer.FirstAnswer.{FirstAnswer}
 use Rattle.script_answer.specs.declared.answer.FirstAnswer.TheVariants as answers
 use Rattle.leaf_run.specs.declared.run.LeafRun.{LeafRun}
@@ -49,6 +49,7 @@ abbrev pub IsCall : State → Request → Finished → Type 0
 IsCall before (requests.Op op) call =
     IsOperated before.volume call.after.volume op call.answer × (call.after.told ≡ before.told) × (call.after.faults ≡ before.faults)
 IsCall before requests.Sync call = (call.after.volume ≡ before.volume) × IsSyncAnswer before.faults call.after.faults call.answer
+IsCall before request call = ⊥
 
 -- what the calls of these lines come to, one after the other (own)
 abbrev pub AreCalls : State → List Line → List Finished → Type 0
@@ -56,6 +57,7 @@ AreCalls before [] [] = ⊤
 AreCalls before [] (call ∷ calls) = ⊥
 AreCalls before (line ∷ lines) [] = ⊥
 AreCalls before (Plain caller request ∷ lines) (call ∷ calls) = IsCall before request call × AreCalls call.after lines calls
+AreCalls before (line ∷ lines) (call ∷ calls) = ⊥
 
 -- the state behind the last of these calls (own)
 abbrev pub state_after : State → List Finished → State
@@ -89,6 +91,7 @@ abbrev pub CallLeaves : Kept → State → Request → Finished → Kept → Typ
 CallLeaves kept before (requests.Op op) call after = after ≡ kept
 CallLeaves kept before requests.Sync call after =
     AtEveryMoment before.told call.after.told (StandsForOne kept.last kept.failed (volume_of before.volume)) × IsSynced (volume_of before.volume) kept call.answer after
+CallLeaves kept before request call after = ⊥
 
 -- what a crash may leave before, during and after each of these calls (own)
 abbrev pub RunLeaves : Kept → State → List Line → List Finished → Type 0
@@ -97,13 +100,15 @@ RunLeaves kept before [] (call ∷ calls) = ⊥
 RunLeaves kept before (line ∷ lines) [] = ⊥
 RunLeaves kept before (Plain caller request ∷ lines) (call ∷ calls) =
     LeavesKept kept before.told × ((after : Kept) × CallLeaves kept before request call after × RunLeaves after call.after lines calls)
+RunLeaves kept before (line ∷ lines) (call ∷ calls) = ⊥
 
 -- ---- runs
 
--- a request whose operation is in its limits (own)
+-- a request that this run carries out: an operation in its limits, or a sync (own)
 abbrev pub IsAllowedRequest : Request → Type 0
 IsAllowedRequest (requests.Op op) = IsInLimits op
 IsAllowedRequest requests.Sync = ⊤
+IsAllowedRequest request = ⊥
 
 -- what holds of a run between two calls: its volume is sound and stands in one leaf, and its store is one of a disk of so many blocks (own)
 pub record IsRunning (run : LeafRun) (count : ℕ) : Type 0 where

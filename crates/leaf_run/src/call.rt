@@ -88,6 +88,7 @@ impl LeafRun {
         match request {
             Request::Op(op) => self.operate(alloc, op),
             Request::Sync => self.sync(alloc, disk),
+            Request::Fsync(_) | Request::Fdatasync(_) => unreachable!(),
         }
     }
 }

@@ -11,7 +11,7 @@ use Rattle.mount_volume.specs.Answer.{HasRisen, IsMountedAs, IsToldFault}
 use Rattle.mount_volume.specs.declared.fault.MountFault.{MountFault}
 use Rattle.mount_volume.specs.declared.fault.MountFault.TheVariants.{Super, Load, OneLeaf, Disk, OutOfMemory}
 use Rattle.mount_volume.specs.declared.mounted.Mounted.{Mounted}
-use Rattle.script_text.specs.declared.script.Line.{Line}
+use Rattle.flat_model.specs.declared.request.Line.{Line}
 use Rattle.script_text.specs.declared.fault.ScriptFault.{ScriptFault}
 use Rattle.script_text.specs.declared.fault.ScriptFault.TheVariants as script_faults
 use Rattle.script_text.specs.Kinds as kinds

@@ -11,7 +11,7 @@ use Rattle.mount_volume.specs.declared.fault.MountFault.{MountFault}
 use Rattle.script_text.specs.declared.fault.ScriptKind.{ScriptKind}
 use Rattle.script_text.specs.declared.fault.ScriptFault.{ScriptFault}
 use Rattle.script_text.specs.declared.fault.ScriptFault.TheVariants as script_faults
-use Rattle.script_text.specs.declared.script.Line.{Line}
+use Rattle.flat_model.specs.declared.request.Line.{Line}
 use Rattle.script_text.specs.Script.{script_of}
 use Rattle.script_source.specs.Reading.{HasEnded, HasGiven, HasGivenSome, IsTooLong}
 use Rattle.script_source.specs.declared.reading.ReadFault as source_fault

@@ -9,7 +9,7 @@ use Rattle.script_text.specs.declared.fault.ScriptKind.{ScriptKind}
 use Rattle.script_text.specs.declared.fault.ScriptKind.TheVariants as kinds
 use Rattle.script_text.specs.declared.fault.LineFault.{LineFault}
 use Rattle.script_text.specs.declared.fault.LineFault.TheVariants as line_faults
-use Rattle.script_text.specs.declared.script.Line.{Line}
+use Rattle.flat_model.specs.declared.request.Line.{Line}
 use Rattle.script_text.specs.Kinds.{◌>>=◌, Fails, IsFaultOf, fault_at}
 use Rattle.flat_model.specs.declared.place.Place.{Place}
 use Rattle.script_text.specs.Words.{number_word}

@@ -13,10 +13,10 @@ use Rattle.script_text.specs.declared.fault.ScriptKind.{ScriptKind}
 use Rattle.script_text.specs.declared.fault.ScriptKind.TheVariants.{Lines, Utf8, Caller, Word, Number}
 use Rattle.script_text.specs.declared.request.Verb.{Verb}
 use Rattle.script_text.specs.declared.request.Verb.TheVariants as verbs
-use Rattle.script_text.specs.declared.script.Line.{Line}
-use Rattle.script_text.specs.declared.script.Line.TheVariants.{Plain}
-use Rattle.script_text.specs.declared.script.Request.{Request}
-use Rattle.script_text.specs.declared.script.Request.TheVariants as requests
+use Rattle.flat_model.specs.declared.request.Line.{Line}
+use Rattle.flat_model.specs.declared.request.Line.TheVariants.{Plain}
+use Rattle.flat_model.specs.declared.request.Request.{Request}
+use Rattle.flat_model.specs.declared.request.Request.TheVariants as requests
 use Rattle.script_text.specs.Kinds.{◌>>=◌}
 use Rattle.script_text.specs.Words.{number_of, number_word}
 use Rattle.script_text.specs.Paths.{place_of, content_of}
@@ -142,6 +142,8 @@ op_back words other h = absurd h
 
 pub request_back : (words : List (List ℕ)) (request : Request) → AreRequest words request → request_from words ≡ Ok request
 request_back words (requests.Op op) h = op_back words op h
+request_back words (requests.Fsync place) h = elim h [ ]
+request_back words (requests.Fdatasync place) h = elim h [ ]
 request_back words requests.Sync h = ap request_from h ∙ sync_back
 
 -- ---- lines
@@ -246,3 +248,4 @@ line_back number bytes (Plain caller request) le s =
     ∙ ap (λ (ws : List (List ℕ)). line_from ws >>= λ line. done (Some line)) cut
     ∙ ap (λ (r : Result ℕ ScriptKind). (r >>= λ c. request_from s.words >>= λ q. done (Plain c q)) >>= λ line. done (Some line)) (caller_back s.caller_word caller s.caller_is s.least s.most)
     ∙ ap (λ (r : Result Request ScriptKind). (r >>= λ q. done (Plain caller q)) >>= λ line. done (Some line)) (request_back s.words request s.request_is)
+line_back number bytes line le s = absurd s

@@ -4,7 +4,7 @@ use Rattle.std.specs.List.{AllByRecursion, join_with_byte, onto_first}
 use Rattle.std.proofs.lemmas.List.{append-nil, nil_from_length}
 use Rattle.std.proofs.lemmas.List.Splits.{join_with_byte-slice_split, length-slice_split}
 use Rattle.script_text.specs.declared.fault.ScriptKind.{ScriptKind}
-use Rattle.script_text.specs.declared.script.Line.{Line}
+use Rattle.flat_model.specs.declared.request.Line.{Line}
 use Rattle.script_text.specs.Words.{parts_at}
 use Rattle.script_text.specs.Script.{line_of, without_empty_end, lines_of, with_line, script_behind, script_with, script_from, script_of}
 use Rattle.script_text.specs.Grammar.{IsWithout, Speak, ended, IsScript}

@@ -7,10 +7,10 @@ use Rattle.blk_base.specs.Name.{IsName}
 use Rattle.flat_model.specs.declared.op.Op.{Op}
 use Rattle.flat_model.specs.declared.op.Op.TheVariants.{Create, Write}
 use Rattle.flat_model.specs.declared.place.Place.{Place}
-use Rattle.script_text.specs.declared.script.Line.{Line}
-use Rattle.script_text.specs.declared.script.Line.TheVariants.{Plain}
-use Rattle.script_text.specs.declared.script.Request.{Request}
-use Rattle.script_text.specs.declared.script.Request.TheVariants as requests
+use Rattle.flat_model.specs.declared.request.Line.{Line}
+use Rattle.flat_model.specs.declared.request.Line.TheVariants.{Plain}
+use Rattle.flat_model.specs.declared.request.Request.{Request}
+use Rattle.flat_model.specs.declared.request.Request.TheVariants as requests
 
 -- no byte of the bytes has this value
 abbrev pub IsWithout : ℕ → List ℕ → Type 0
@@ -104,6 +104,8 @@ AreOp words other = ⊥
 abbrev pub AreRequest : List (List ℕ) → Request → Type 0
 AreRequest words (requests.Op op) = AreOp words op
 AreRequest words requests.Sync = words ≡ codes "sync" ∷ []
+AreRequest words (requests.Fsync place) = ⊥
+AreRequest words (requests.Fdatasync place) = ⊥
 
 -- the line's bytes are words with one space between them: a caller, 1 to 16, and a request
 pub record IsSpoken (bytes : List ℕ) (caller : ℕ) (request : Request) : Type 0 where
@@ -119,6 +121,7 @@ pub record IsSpoken (bytes : List ℕ) (caller : ℕ) (request : Request) : Type
 
 abbrev pub IsLine : List ℕ → Line → Type 0
 IsLine bytes (Plain caller request) = IsSpoken bytes caller request
+IsLine bytes line = ⊥
 
 -- the line does nothing: it is empty, or a comment
 abbrev pub IsSilent : List ℕ → Type 0

@@ -7,10 +7,10 @@ use Rattle.script_text.specs.declared.fault.ScriptKind.{ScriptKind}
 use Rattle.script_text.specs.declared.fault.ScriptKind.TheVariants.{Lines, Utf8, Caller, Word}
 use Rattle.script_text.specs.declared.request.Verb.{Verb}
 use Rattle.script_text.specs.declared.request.Verb.TheVariants as verbs
-use Rattle.script_text.specs.declared.script.Line.{Line}
-use Rattle.script_text.specs.declared.script.Line.TheVariants.{Plain}
-use Rattle.script_text.specs.declared.script.Request.{Request}
-use Rattle.script_text.specs.declared.script.Request.TheVariants as requests
+use Rattle.flat_model.specs.declared.request.Line.{Line}
+use Rattle.flat_model.specs.declared.request.Line.TheVariants.{Plain}
+use Rattle.flat_model.specs.declared.request.Request.{Request}
+use Rattle.flat_model.specs.declared.request.Request.TheVariants as requests
 use Rattle.script_text.specs.Kinds.{◌>>=◌}
 use Rattle.script_text.specs.Words.{parts_at, number_of, number_word}
 use Rattle.script_text.specs.Paths.{place_of, content_of}

@@ -17,5 +17,6 @@ mod tests;
 mod text;
 
 pub use fault::{ScriptFault, ScriptKind};
+pub use flat_model::{Line, Request};
 pub use laws::script_law;
-pub use script::{Line, Request, Script, parse};
+pub use script::{Script, parse};

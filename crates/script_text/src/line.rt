@@ -8,7 +8,7 @@ use crate::fault::{LineFault, ScriptKind};
 use crate::number::number;
 use crate::parts::parts;
 use crate::request::request;
-use crate::script::Line;
+use flat_model::Line;
 use std::alloc::Global;
 
 /// The most lines of a script.

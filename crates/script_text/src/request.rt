@@ -8,9 +8,8 @@ ghost use Rattle.script_text.specs.Parts.{bytes_of};
 use crate::fault::{LineFault, ScriptKind};
 use crate::number::number;
 use crate::path::place;
-use crate::script::Request;
 use crate::text::content;
-use flat_model::Op;
+use flat_model::{Op, Request};
 use std::alloc::Global;
 
 /// The word of `Verb::Create`.

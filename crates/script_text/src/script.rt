@@ -5,25 +5,9 @@ ghost use Rattle.script_text.specs.Script.{script_of};
 use crate::fault::ScriptFault;
 use crate::line::line;
 use crate::parts::cut;
-use flat_model::Op;
+use flat_model::Line;
 use std::alloc::Global;
 use std::marker::Model;
-
-/// What a line asks for.
-#[derive(Drop, Debug)]
-pub enum Request {
-    /// An operation on the volume.
-    Op(Op),
-    /// All that was done before is to be on the disk.
-    Sync,
-}
-
-/// A line of a script that does something.
-#[derive(Drop, Debug)]
-pub enum Line {
-    /// A caller, 1 to 16, and what it asks for.
-    Plain(u32, Request),
-}
 
 /// A script: its lines that do something, in their order. Seen as their list.
 #[derive(Drop, Debug)]
@@ -33,7 +17,7 @@ pub struct Script {
 
 impl Model for Script {
     ghost use Rattle.std.specs.Prelude.{List};
-    ghost use Rattle.script_text.specs.declared.script.Line.{Line};
+    ghost use Rattle.flat_model.specs.declared.request.Line.{Line};
 
     ghost Value = { List Line };
 

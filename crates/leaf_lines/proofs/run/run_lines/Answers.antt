@@ -1,8 +1,8 @@
 use Rattle.std.proofs.Common.{◌+◌, List, refl, take, ◌∙◌, arith}
-use Rattle.script_text.specs.declared.script.Line.{Line}
+use Rattle.flat_model.specs.declared.request.Line.{Line}
 use Rattle.leaf_run.specs.Run.{Finished, State, state_of}
 use Rattle.leaf_lines.specs.declared.fault.RunFault.TheVariants as faults
-use Rattle.leaf_lines.proofs.Calls.{IsCut, IsTaken, Takes-none, counted, cut_more, done_line_more, done_more, done_none, done_same, ends_in_a_line, ends_in_the_last_line, ends_well, ends_without_memory, err_is, line_is, taken_more}
+use Rattle.leaf_lines.proofs.Calls.{IsCut, IsTaken, Takes-none, counted, cut_more, done_line_more, done_more, done_none, done_same, ends_in_a_line, ends_in_the_last_line, ends_well, ends_without_memory, err_is, taken_more}
 use Rattle.leaf_lines.proofs.run.run_lines.Goals as goal
 
 pub loop-line-init : goal.loop-line-init
@@ -29,8 +29,8 @@ returns-in_err-put_answer-clause-ran g c =
     let lines = c.args.lines.now in
     let place = c.loop-line.line-index in
     let line = c.line-item.result in
-    let caller = c.caller_of.result in
-    let request = c.request_of.result.now in
+    let caller = c.plain_of.result.0 in
+    let request = c.plain_of.result.1.now in
     let P : List Line → List Finished → Type 0 = IsTaken (g.K.Sink.taken c.args.to.now) (g.K.Sink.taken c.loop-line.to) in
     let Q : List Line → List Finished → Type 0 = IsCut (g.K.Sink.taken c.args.to.now) (g.K.Sink.taken c.put_answer.new.to) in
     let before : State = state_of c.args.run.now (g.D.Disk.told c.args.disk.now) (g.D.Disk.faults c.args.disk.now) in
@@ -40,7 +40,7 @@ returns-in_err-put_answer-clause-ran g c =
     let store = c.args.run.now.store in
     let store_now = c.call.new.self.store in
     ends_in_a_line lines (place + 1) before now store store_now c.from_residual-in_err-put_answer.result _ _ (err_is c.from_residual-in_err-put_answer.result faults.Sink c.from_residual-in_err-put_answer.ensures.1)
-    (done_line_more lines place line caller request before now store store_now Q c.loop-line-test.true c.line-item.is (line_is line caller request c.caller_of.ensures c.request_of.ensures)
+    (done_line_more lines place line caller request before now store store_now Q c.loop-line-test.true c.line-item.is c.plain_of.ensures
     (done_more (take place lines) before mid store c.loop-line.run.store store_now P Q caller request call c.in_ok-answer.ensures.call c.in_ok-answer.ensures.crash (λ calls are takes. cut_more before (take place lines) caller request call _ _ _ calls are takes c.in_err-put_answer.ensures.front) c.loop-line.invariant.done))
 
 pub loop-line-preserved : goal.loop-line-preserved
@@ -48,8 +48,8 @@ loop-line-preserved g c =
     let lines = c.args.lines.now in
     let place = c.loop-line.line-index in
     let line = c.line-item.result in
-    let caller = c.caller_of.result in
-    let request = c.request_of.result.now in
+    let caller = c.plain_of.result.0 in
+    let request = c.plain_of.result.1.now in
     let P : List Line → List Finished → Type 0 = IsTaken (g.K.Sink.taken c.args.to.now) (g.K.Sink.taken c.loop-line.to) in
     let Q : List Line → List Finished → Type 0 = IsTaken (g.K.Sink.taken c.args.to.now) (g.K.Sink.taken c.put_answer.new.to) in
     let before : State = state_of c.args.run.now (g.D.Disk.told c.args.disk.now) (g.D.Disk.faults c.args.disk.now) in
@@ -62,7 +62,7 @@ loop-line-preserved g c =
       running = c.call.ensures.running;
       size = c.call.ensures.size ∙ c.loop-line.invariant.size;
       done =
-          done_line_more lines place line caller request before now store store_now Q c.loop-line-test.true c.line-item.is (line_is line caller request c.caller_of.ensures c.request_of.ensures)
+          done_line_more lines place line caller request before now store store_now Q c.loop-line-test.true c.line-item.is c.plain_of.ensures
           (done_more (take place lines) before mid store c.loop-line.run.store store_now P Q caller request call c.in_ok-answer.ensures.call c.in_ok-answer.ensures.crash (λ calls are takes. taken_more before (take place lines) caller request call _ _ _ calls are takes c.in_ok-put_answer.ensures.whole) c.loop-line.invariant.done);
       counted = omega (arith, c.put_answer.ensures.cause.0);
       disk_counted = omega (arith, counted mid request call c.in_ok-answer.ensures.call);

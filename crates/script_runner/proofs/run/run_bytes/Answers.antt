@@ -2,7 +2,7 @@ use Rattle.std.proofs.Common.{List, Ok, ◌≡◌, ◌∙◌, ap, refl, subst, s
 use Rattle.io_edge.specs.Edge.{Takes, TakesFront}
 use Rattle.mount_volume.specs.Answer.{HasRisen}
 use Rattle.script_text.specs.Script.{script_of}
-use Rattle.script_text.specs.declared.script.Line.{Line}
+use Rattle.flat_model.specs.declared.request.Line.{Line}
 use Rattle.leaf_lines.specs.Lines.{AreAllowed}
 use Rattle.leaf_lines.proofs.Allowed.{script_allowed}
 use Rattle.script_runner.specs.declared.status.Status.{Status}

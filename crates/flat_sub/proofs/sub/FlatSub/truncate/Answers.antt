@@ -34,4 +34,4 @@ returns-clause-done c =
     let run : RunSub = sub_view c.args.self.now in
     let end : WalkEnd = walk run.sub c.args.path.now in
     truncate_finishes run c.args.path.now c.args.size (c.in_default.ensures run.sub.names end c.walk-end.ensures) (le-ltb _ c.args.size c.if-size-gt-MOST_FILE_BYTES.false)
-    c.ino.result (sub_view c.truncate_at.new.self) (c.ino.ensures run.sub.names end c.walk-end.ensures) c.in_ok-truncate_at.ensures.ok
+    c.ino.result (sub_view c.truncate_at.new.self) (c.ino.ensures run.sub.names end c.walk-end.ensures) c.truncate_at.ensures.view

@@ -1,12 +1,11 @@
 use Rattle.std.proofs.Common.{◌≡◌, Some, sym, ap, ◌∙◌}
-use Rattle.std.specs.FinMap.{insert}
+use Rattle.std.specs.FinMap.{get, insert}
 use Rattle.flat_model.specs.Contents.{written}
-use Rattle.flat_model.specs.Operations.{file_there, no_file}
-use Rattle.flat_model.specs.Records.{InodeRecord, FileInode}
+use Rattle.flat_model.specs.Operations.{file_there}
+use Rattle.flat_model.specs.Records.{FileInode}
 use Rattle.flat_model.specs.Volume.{RunSub, is_dir_there, is_link_there}
-use Rattle.flat_sub.specs.Editing.{with_record_of}
 use Rattle.flat_sub.specs.View.{sub_view}
-use Rattle.flat_sub.proofs.Inodes.{on_ok, is_file, record_here, record_nowhere, record_set, rising_set, with_inodes}
+use Rattle.flat_sub.proofs.Inodes.{on_ok, is_file, record_here, record_nowhere, record_put, record_not_put, record_set, rising_set, with_inodes}
 use Rattle.flat_sub.proofs.sub.FlatSub.write_at.Goals as goal
 
 pub write-requires-clause-file : goal.write-requires-clause-file
@@ -22,7 +21,8 @@ returns-in-Some-clause-ok c =
     let here = record_here items c.args.ino c.in-Some.at lent c.in-Some.ensures c.index_mut-entry.ensures.value in
     on_ok c.write.result (λ done.
     ap (with_inodes run) (record_set items c.args.ino c.in-Some.at lent c.write.new.self c.in-Some.ensures c.index_mut-entry.ensures.value
-    ∙ ap (insert run.sub.inodes c.args.ino) (done ∙ ap (λ r. FileInode (written (file_there r) c.args.offset c.args.text.now)) (sym here)))) c.write.ensures.ok
+    ∙ ap (insert run.sub.inodes c.args.ino) (done ∙ ap (λ r. FileInode (written (file_there r) c.args.offset c.args.text.now)) (sym here)))
+    ∙ sym (record_put run c.args.ino lent.1 (FileInode (written (file_there (get run.sub.inodes c.args.ino)) c.args.offset c.args.text.now)) here)) c.write.ensures.ok
 
 pub returns-in-Some-clause-kept : goal.returns-in-Some-clause-kept
 returns-in-Some-clause-kept c =
@@ -37,9 +37,8 @@ returns-in-Some-clause-kept c =
       each_least = kept.each_least;
     }
 
-pub returns-in_ok-write-in-None-clause-ok : goal.returns-in_ok-write-in-None-clause-ok
-returns-in_ok-write-in-None-clause-ok c =
+pub returns-in-None-clause-ok : goal.returns-in-None-clause-ok
+returns-in-None-clause-ok c =
     let run : RunSub = sub_view c.args.self.now in
     let nowhere = record_nowhere c.args.self.now.inodes.items c.args.ino c.in-None.ensures in
-    let made : c.write-in-None.new.self ≡ FileInode (written no_file c.args.offset c.args.text.now) = c.in_ok-write-in-None.ensures.ok ∙ ap (λ (inode : InodeRecord). FileInode (written (file_there (Some inode)) c.args.offset c.args.text.now)) c.new-file.ensures in
-    on_ok c.put_record.result (λ put. put ∙ ap (with_record_of run c.args.ino) (made ∙ sym (ap (λ r. FileInode (written (file_there r) c.args.offset c.args.text.now)) nowhere))) c.put_record.ensures.ok
+    sym (record_not_put run c.args.ino (FileInode (written (file_there (get run.sub.inodes c.args.ino)) c.args.offset c.args.text.now)) nowhere)
