@@ -134,7 +134,7 @@ covered_by is_covered cover call = elim call.cover [ covers.Open ↦ record call
 abbrev pub counted : Call → Call
 counted call = record call { events = call.events + 1 }
 
--- a caller's call after an event of its own (own)
+-- a caller's call after an event of its own; its own commit covers what it waits for (own)
 abbrev pub after_own : State → ℕ → Call → Event → Call
 after_own state caller call (event.Op by op again end indexes) = cond again (at_stage call (op_stage op again end)) (begun (op_stage op again end))
 after_own state caller call (event.Refused by target answer) = begun (Ended (Some answer))
@@ -143,9 +143,9 @@ after_own state caller call (event.Ask by) = asked call state.failures
 after_own state caller call (event.SealSub by sub number) = at_stage call (with_part call.stage Sealed)
 after_own state caller call (event.SubWritten by sub number) = at_stage call (with_part call.stage Written)
 after_own state caller call (event.SealRoot by) = at_stage call (with_part call.stage InRoot)
-after_own state caller call (event.RootDone by) = counted (covered_by (is_covered_by_root state call.stage) covers.Root call)
+after_own state caller call (event.RootDone by) = counted (covered_by true covers.Root call)
 after_own state caller call (event.SealFull by) = at_stage call (with_seal call.stage)
-after_own state caller call (event.FullDone by) = counted (covered_by (is_covered_by_full state caller call.stage) covers.Full call)
+after_own state caller call (event.FullDone by) = counted (covered_by true covers.Full call)
 after_own state caller call (event.Failed by turn tried) = at_stage call (Ended (Some answers.Io))
 after_own state caller call (event.GiveUp by sub number) = at_stage call (with_part call.stage GaveUp)
 

@@ -1,7 +1,7 @@
 -- What each event does to the state.
-use Rattle.std.specs.Prelude.{ℕ, ◌+◌, ◌-◌, ◌&&◌, ◌||◌, not, Bool, true, false, cond, List, [], ◌∷◌, ◌++◌, filter, map, fold, Option, Some, None, is_some, unwrap_or, nat_eq, nat_le}
+use Rattle.std.specs.Prelude.{ℕ, ◌+◌, ◌-◌, ◌&&◌, ◌||◌, not, Bool, true, false, cond, List, [], ◌∷◌, ◌++◌, filter, map, fold, Option, Some, None, unwrap_or, nat_eq, nat_le}
 use Rattle.std.specs.List.{list_any}
-use Rattle.std.specs.FinMap.{FinMap, empty, get, insert, entries}
+use Rattle.std.specs.FinMap.{FinMap, get, insert}
 use Rattle.std.specs.Ordering.{nat_cmp}
 use Rattle.flat_model.specs.declared.op.Op.{Op}
 use Rattle.flat_model.specs.Volume.{Subvolume, Volume, RunVolume, RunSub, volume_of}
@@ -164,8 +164,8 @@ state_after_step state caller sub (logged.Ticket number) =
 state_after_step state caller sub (logged.Full reason) = record state { wants = wanting state.wants caller }
 
 -- the numbers that a root commit takes: of each subvolume the greatest that is ready (own)
-unfoldable pub numbers_ready : FinMap nat_cmp SubLog → FinMap nat_cmp ℕ
-numbers_ready logs = fold (λ numbers (entry : ℕ × SubLog). elim (greatest_ready entry.1) [ None ↦ numbers | Some number ↦ insert numbers entry.0 number ]) empty (entries logs)
+unfoldable pub numbers_ready : FinMap nat_cmp SubLog → FinMap nat_cmp (Option ℕ)
+numbers_ready logs = changed (λ id log. greatest_ready log) logs
 
 -- whether the caller has a ticket
 abbrev pub has_ticket : List Ticket → ℕ → Bool

@@ -54,9 +54,9 @@ pub record IsAlready (log : SubLog) (current : Subvolume) (ino : ℕ) (datasync 
   pub no_failure : failures ≡ 0
 
 -- the ticket of a log step: the open number where it changes something, else the newest undurable one (own)
-pub record IsTicketOf (log : SubLog) (current : Subvolume) (ino : ℕ) (datasync : Bool) (number : ℕ) : Type 0 where
-  pub changes : log_step current log.logged ino datasync ≢ log.logged → number ≡ log.open_number
-  pub changes_nothing : log_step current log.logged ino datasync ≡ log.logged → log.undurable ≡ Some number
+pub data IsTicketOf (log : SubLog) (current : Subvolume) (ino : ℕ) (datasync : Bool) : ℕ → Type 0 where
+  IsOpen : log_step current log.logged ino datasync ≢ log.logged → IsTicketOf log current ino datasync log.open_number
+  IsNewest : (number : ℕ) → log_step current log.logged ino datasync ≡ log.logged → log.undurable ≡ Some number → IsTicketOf log current ino datasync number
 
 -- How a log step may end, by the numbers on room: done already, else with the first reason for a full commit, else with a ticket. How
 -- many blocks are free, and how many the committed trees have, isn't said here (own).

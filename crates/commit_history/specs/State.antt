@@ -1,7 +1,7 @@
 -- The state of a mounted volume: the volumes, where each subvolume's log stands, and who holds or wants which turn.
 use Rattle.std.specs.Prelude.{◌≡◌, ℕ, ◌+◌, ◌-◌, ◌%◌, ◌&&◌, Bool, false, cond, List, [], ◌∷◌, map, filter, Option, Some, None, unwrap_or, is_some, nat_le, nat_lt, nat_eq}
 use Rattle.std.specs.Ordering.{nat_cmp}
-use Rattle.std.specs.List.{list_any, list_all, range_with_len}
+use Rattle.std.specs.List.{list_any, list_all, last_or, range_with_len}
 use Rattle.std.specs.FinMap.{FinMap, empty, get, entries, from_entries}
 use Rattle.flat_model.specs.Volume.{Subvolume, Volume, RunVolume, mounted}
 
@@ -77,14 +77,9 @@ uncovered_numbers log = range_with_len (log.covered + 1) (log.open_number - (log
 abbrev pub is_ready : SubLog → ℕ → Bool
 is_ready log number = nat_lt log.covered number && list_all (is_written log) (range_with_len (log.covered + 1) (number - log.covered))
 
--- the last of a list
-abbrev pub last_of : List ℕ → Option ℕ
-last_of [] = None
-last_of (number ∷ numbers) = Some (unwrap_or (last_of numbers) number)
-
 -- the greatest number that is ready, where there is one (own)
 unfoldable pub greatest_ready : SubLog → Option ℕ
-greatest_ready log = last_of (filter (is_ready log) (uncovered_numbers log))
+greatest_ready log = last_or None (filter (is_ready log) (uncovered_numbers log))
 
 -- ---- the volume
 
@@ -94,10 +89,10 @@ pub record Ticket : Type 0 where
   pub sub : ℕ
   pub number : ℕ
 
--- A root commit that runs: the caller that holds the turn, and for each subvolume the number that it takes, where it takes one (own).
+-- A root commit that runs: the caller that holds the turn, and for each subvolume the number that it takes, none where it takes none (own).
 pub record RootCommit : Type 0 where
   pub holder : ℕ
-  pub numbers : FinMap nat_cmp ℕ
+  pub numbers : FinMap nat_cmp (Option ℕ)
 
 -- A full commit that runs: the caller that holds the turn, the volume that it commits, the point at which it was sealed, and the
 -- callers that wanted it then (own).
@@ -151,7 +146,7 @@ durable_volume state = changed (λ id log. log.durable) state.logs
 -- the number of a subvolume that the root commit takes, where it takes one
 abbrev pub number_taken : Option RootCommit → ℕ → Option ℕ
 number_taken None id = None
-number_taken (Some root) id = get root.numbers id
+number_taken (Some root) id = unwrap_or (get root.numbers id) None
 
 -- the root commit covers a ticket's number (own)
 abbrev pub is_taken : Option RootCommit → ℕ → ℕ → Bool

@@ -4,12 +4,12 @@ use Rattle.std.specs.FinMap.{get}
 use Rattle.flat_model.specs.Records.{InodeRecord, at_creation}
 use Rattle.flat_model.specs.Names.{FlatName, names_of}
 use Rattle.flat_model.specs.Coherent.{IsCoherent}
-use Rattle.flat_model.specs.Volume.{Subvolume, Volume}
+use Rattle.flat_model.specs.Volume.{Subvolume, Volume, RunSub}
 use Rattle.flat_model.specs.Step.{Operated, volume_at}
 use Rattle.flat_model.specs.Points.{IsPoint}
 use Rattle.commit_history.specs.declared.event.Event.{Event}
 use Rattle.commit_history.specs.declared.event.Event.TheVariants as event
-use Rattle.commit_history.specs.State.{Synced, SubLog, RootCommit, FullCommit, State, HasLog, changed, mounted_state, durable_volume}
+use Rattle.commit_history.specs.State.{Synced, SubLog, RootCommit, FullCommit, State, HasLog, changed, mounted_state, durable_volume, number_taken}
 use Rattle.commit_history.specs.Effects.{after, log_taken, state_of}
 use Rattle.commit_history.specs.Legal.{operated_by}
 
@@ -99,7 +99,7 @@ pub record Survives (volume : Volume) (events : List Event) (left : Volume) : Ty
 
 -- the volume that a root commit makes durable
 abbrev pub volume_by_root : State → RootCommit → Volume
-volume_by_root state root = changed (λ id log. (log_taken (get root.numbers id) log).durable) state.logs
+volume_by_root state root = changed (λ id log. (log_taken (number_taken (Some root) id) log).durable) state.logs
 
 -- the volume that the superblock of the commit that runs would make durable, where one runs (own)
 abbrev pub next_volumes : State → List Volume
@@ -120,3 +120,10 @@ tried_from state tried (event ∷ events) = tried_from (after state event) (trie
 -- Each volume that a crash may leave after these events: the durable one, that of the superblock being written, and those of superblocks whose write failed (own).
 unfoldable pub possible_volumes : Volume → List Event → List Volume
 possible_volumes volume events = durable_volume (state_of volume events) ∷ next_volumes (state_of volume events) ++ tried_from (mounted_state volume) [] events
+
+-- ---- states
+
+-- the subvolume is, in a state, the current one or the logged one (own)
+pub data IsStateOf (state : State) (id : ℕ) : Subvolume → Type 0 where
+  IsCurrent : (run : RunSub) → get state.current id ≡ Some run → IsStateOf state id run.sub
+  IsLogged : (log : SubLog) → HasLog state id log → IsStateOf state id log.logged

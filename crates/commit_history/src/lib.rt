@@ -6,10 +6,14 @@
 //! definitions alone: the functions here have no parameters and no body.
 #![tactic(auto)]
 
+mod calls;
 mod event;
 mod numbers;
 mod points;
+mod survival;
 
+pub use calls::{calls_have_one_answer, calls_make_few_events};
 pub use event::{Cover, Event, Logged, OpEnd, Turn};
 pub use numbers::log_numbers_rise;
 pub use points::{creation_is_a_point, points_of_a_history_agree};
+pub use survival::{states_agree, what_a_crash_leaves_survives};
