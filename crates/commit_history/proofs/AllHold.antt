@@ -114,10 +114,12 @@ module _ (volume : Volume) (coherent : IsCoherentVolume volume) where
   state_survives events legal id _ (IsCurrent run there) =
       let holds = holds_after events legal in
       let history : List Operated = operations_of events in
-      let at : IsAtPoint volume history id (length history) run.sub = (omega arith,
+      let at : IsAtPoint volume history id (length history) run.sub = (
+        omega arith,
         get_volume_of (after_all (mounted volume) (take (length history) history)) id
-        ∙ ap (λ r. option_map (λ (s : RunSub). s.sub) (get r id)) (ap (after_all (mounted volume)) (take_all (length history) history (omega arith)) ∙ sym holds.current)
-        ∙ ap (option_map (λ (s : RunSub). s.sub)) there) in
+            ∙ ap (λ r. option_map (λ (s : RunSub). s.sub) (get r id)) (ap (after_all (mounted volume)) (take_all (length history) history (omega arith)) ∙ sym holds.current)
+            ∙ ap (option_map (λ (s : RunSub). s.sub)) there,
+      ) in
       point_survives volume history coherent holds.legal id 0 [] (length history) run.sub at (omega arith) (λ fsync c. absurd (contains_none fsync c))
   state_survives events legal id _ (IsLogged log has) =
       let own = (holds_after events legal).logs id log has in

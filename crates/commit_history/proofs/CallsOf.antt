@@ -222,7 +222,7 @@ all_few : (events : List Event) (state : State) (calls : ℕ → Call) → Follo
 all_few [] state calls follows caller few = few
 all_few (e ∷ events) state calls follows caller few = all_few events (after state e) (λ other. call_after state other (calls other) e) follows.1 caller (elim (cases_eq caller (caller_of e)) [
   | inl own ↦ subst (λ b. Few (cond b (after_own state caller (calls caller) e) (after_other state caller (calls caller) e))) (sym (eq-eqb caller (caller_of e) own))
-    (own_few state caller (calls caller).cover (calls caller).stage (calls caller).events e few (subst (λ c. IsDone state c (duty state (calls c)) e) (sym own) follows.0))
+      (own_few state caller (calls caller).cover (calls caller).stage (calls caller).events e few (subst (λ c. IsDone state c (duty state (calls c)) e) (sym own) follows.0))
   | inr other ↦ subst (λ b. Few (cond b (after_own state caller (calls caller) e) (after_other state caller (calls caller) e))) (sym (ne_eqb caller (caller_of e) other)) (other_few state caller (calls caller) e few)
 ])
 

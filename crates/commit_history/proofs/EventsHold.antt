@@ -55,7 +55,6 @@ record IsSameTurns (old new : State) : Type 0 where
   full : new.full ≡ old.full
   failures : new.failures ≡ old.failures
 
-
 module _ (volume : Volume) (coherent : IsCoherentVolume volume) (history : List Operated) (tried : List Volume) (state : State) (holds : Holds volume history tried state) where
   -- ---- slots
 
@@ -73,7 +72,7 @@ module _ (volume : Volume) (coherent : IsCoherentVolume volume) (history : List 
         (subst (λ c. LogHolds volume history id c state.tickets (log_after state e id log)) (sym committed)
         (subst (LogHolds volume history id state.committed_at state.tickets) (sym (is id log))
         (either (LogHolds volume history id state.committed_at state.tickets) (nat_eq id sub) (record log { slots = slots log }) log
-          (λ _. with_slots volume coherent history holds.legal id state.committed_at state.tickets log (holds.logs id log has) (slots log)) (λ _. holds.logs id log has)))));
+        (λ _. with_slots volume coherent history holds.legal id state.committed_at state.tickets log (holds.logs id log has) (slots log)) (λ _. holds.logs id log has)))));
     ids = ids_after state e volume holds.ids;
     ids_back = ids_back_after state e volume holds.ids_back;
     root = λ id log number has taken. logs_after state e (λ id log. number_taken state.root id ≡ Some number → IsUncovered log number) (λ id log has taken.
@@ -117,9 +116,9 @@ module _ (volume : Volume) (coherent : IsCoherentVolume volume) (history : List 
     logs = logs_after state (event.SealSub caller sub number) (λ id log. LogHolds volume history id state.committed_at state.tickets log) (λ id log has.
         either (LogHolds volume history id state.committed_at state.tickets) (nat_eq id sub.0) (log_sealed log caller number) log
         (λ same.
-            let id_is : id ≡ sub.0 = eqb-true id sub.0 same in
-            seal_holds volume coherent history holds.legal id state.committed_at state.tickets log (holds.logs id log has) caller number (open_is id log has id_is)
-            (subst (λ q. Contains state.tickets (record { caller = caller; sub = q; number = number })) (sym id_is) may.ticket))
+        let id_is : id ≡ sub.0 = eqb-true id sub.0 same in
+        seal_holds volume coherent history holds.legal id state.committed_at state.tickets log (holds.logs id log has) caller number (open_is id log has id_is)
+        (subst (λ q. Contains state.tickets (record { caller = caller; sub = q; number = number })) (sym id_is) may.ticket))
         (λ _. holds.logs id log has));
     ids = ids_after state (event.SealSub caller sub number) volume holds.ids;
     ids_back = ids_back_after state (event.SealSub caller sub number) volume holds.ids_back;
@@ -155,11 +154,13 @@ module _ (volume : Volume) (coherent : IsCoherentVolume volume) (history : List 
     where
       among : (ticket : Ticket) → Contains (filter (λ (ticket : Ticket). not (is_taken state.root ticket.sub ticket.number)) state.tickets) ticket → Contains state.tickets ticket
       among ticket c = (filter_contains (λ (t : Ticket). not (is_taken state.root t.sub t.number)) state.tickets ticket c).0
+
       above : (id number : ℕ) → number_taken state.root id ≡ Some number → (ticket : Ticket) → Contains (filter (λ (ticket : Ticket). not (is_taken state.root ticket.sub ticket.number)) state.tickets) ticket → ticket.sub ≡ id → number < ticket.number
       above id number taken ticket c of_sub =
           let not_taken : is_taken state.root ticket.sub ticket.number ≡ false = not-true _ (filter_contains (λ (t : Ticket). not (is_taken state.root t.sub t.number)) state.tickets ticket c).1 in
           let at : number_taken state.root ticket.sub ≡ Some number = ap (number_taken state.root) of_sub ∙ taken in
           leb-false ticket.number number (sym (ap (λ o. elim o as (λ x. Bool) [ None ↦ false | Some n ↦ nat_le ticket.number n ]) at) ∙ not_taken)
+
       covered : (id : ℕ) (log : SubLog) → HasLog state id log → (o : Option ℕ) → number_taken state.root id ≡ o → LogHolds volume history id state.committed_at (filter (λ (ticket : Ticket). not (is_taken state.root ticket.sub ticket.number)) state.tickets) (log_taken o log)
       covered id log has None e = fewer_tickets volume coherent history holds.legal id state.committed_at state.tickets log (holds.logs id log has) (filter (λ (ticket : Ticket). not (is_taken state.root ticket.sub ticket.number)) state.tickets) among
       covered id log has (Some number) e = cover_holds volume coherent history holds.legal id state.committed_at state.tickets log (holds.logs id log has) number (holds.root id log number has e) (filter (λ (ticket : Ticket). not (is_taken state.root ticket.sub ticket.number)) state.tickets) among (above id number e)
@@ -182,6 +183,7 @@ module _ (volume : Volume) (coherent : IsCoherentVolume volume) (history : List 
     where
       at_is : point_at_seal state.full ≡ may.commit.point
       at_is = ap point_at_seal may.runs
+
       committed : (id : ℕ) (log : SubLog) → HasLog state id log → LogHolds volume history id may.commit.point [] (log_with (sub_sealed state.full id) log)
       committed id log has =
           let sub = sub_at volume coherent history tried state holds id log may.commit.point has in
@@ -219,17 +221,22 @@ module _ (volume : Volume) (coherent : IsCoherentVolume volume) (history : List 
     where
       among : (ticket : Ticket) → Contains (filter (λ (ticket : Ticket). not (nat_eq ticket.caller caller)) state.tickets) ticket → Contains state.tickets ticket
       among ticket c = (filter_contains (λ (t : Ticket). not (nat_eq t.caller caller)) state.tickets ticket c).0
+
       next : (one : Volume) → LeftSurvives volume history state one → LeftSurvives volume history (after state (event.Failed caller turn was_tried)) one
       next one survives = left_after volume history state (event.Failed caller turn was_tried) one refl (λ id log. refl) survives
+
       all_survive : (b : Bool) (one : Volume) → Contains (cond b (next_volumes state ++ tried) tried) one → LeftSurvives volume history (after state (event.Failed caller turn was_tried)) one
       all_survive true one c = next one (elim (Contains-append_cases (next_volumes state) tried one c) [ inl new ↦ next_survive volume coherent history tried state holds one new | inr old ↦ holds.tried_survive one old ])
       all_survive false one c = next one (holds.tried_survive one c)
+
       own_root : HoldsRoot state caller → root_without state.root caller ≡ None
       own_root own = ap (λ o. root_without o caller) own.runs ∙ ap (λ b. cond b None (Some own.commit)) (eq-eqb own.commit.holder caller own.own)
+
       no_root : (x : Turn) → MayFail state caller x true → root_without state.root caller ≡ None
       no_root (turns.Slot sub parity) own = absurd (true≢false own.1)
       no_root turns.Root own = own_root own
       no_root turns.Full own = ap (λ o. root_without o caller) (holds.full own.commit own.runs).no_root
+
       all_fail : (b : Bool) → MayFail state caller turn b → (one : Volume) → Contains (cond b (next_volumes state ++ tried) tried) one → (0 < state.failures + 1) × (root_without state.root caller ≡ None)
       all_fail true own one c = (omega arith, no_root turn own)
       all_fail false own one c = (omega arith, ap (λ o. root_without o caller) (holds.tried_fails one c).1)
@@ -265,20 +272,22 @@ module _ (volume : Volume) (coherent : IsCoherentVolume volume) (history : List 
         → ((log : SubLog) → HasLog state sub.0 log → log ≡ may.log → P sub.0 (log_after_step log may.run.sub caller (length history) ino.0 end datasync)) → ((id : ℕ) (log : SubLog) → HasLog state id log → id ≢ sub.0 → P id log)
         → (id : ℕ) (log : SubLog) → HasLog state id log → P id (log_after state (event.Log caller sub ino end datasync) id log)
     own_log end may P own other id log has = either (P id) (nat_eq id sub.0) (log_stepped (get state.current id) log caller state.point ino.0 end datasync) log
-      (λ same.
-          let id_is : id ≡ sub.0 = eqb-true id sub.0 same in
-          let there : get state.current id ≡ Some may.run = ap (get state.current) id_is ∙ may.current in
-          let has_own : HasLog state sub.0 log = subst (λ q. HasLog state q log) id_is has in
-          subst (λ o. P id (log_stepped o log caller state.point ino.0 end datasync)) (sym there)
-          (subst (λ p. P id (log_after_step log may.run.sub caller p ino.0 end datasync)) (sym holds.point)
-          (subst (λ q. P q (log_after_step log may.run.sub caller (length history) ino.0 end datasync)) (sym id_is) (own log has_own (some_same log may.log (sym has_own ∙ may.of_sub))))))
-      (λ apart. other id log has (λ same. true≢false (sym (eq-eqb id sub.0 same) ∙ apart)))
+        (λ same.
+        let id_is : id ≡ sub.0 = eqb-true id sub.0 same in
+        let there : get state.current id ≡ Some may.run = ap (get state.current) id_is ∙ may.current in
+        let has_own : HasLog state sub.0 log = subst (λ q. HasLog state q log) id_is has in
+        subst (λ o. P id (log_stepped o log caller state.point ino.0 end datasync)) (sym there)
+        (subst (λ p. P id (log_after_step log may.run.sub caller p ino.0 end datasync)) (sym holds.point)
+        (subst (λ q. P q (log_after_step log may.run.sub caller (length history) ino.0 end datasync)) (sym id_is) (own log has_own (some_same log may.log (sym has_own ∙ may.of_sub))))))
+        (λ apart. other id log has (λ same. true≢false (sym (eq-eqb id sub.0 same) ∙ apart)))
 
     now_at : (end : Logged) (may : MayLog state sub.0 ino.0 end datasync) → IsAtPoint volume history sub.0 (length history) may.run.sub
-    now_at end may = (omega arith,
+    now_at end may = (
+      omega arith,
       get_volume_of (after_all (mounted volume) (take (length history) history)) sub.0
-      ∙ ap (λ run. option_map (λ (r : RunSub). r.sub) (get run sub.0)) (ap (after_all (mounted volume)) (take_all (length history) history (omega arith)) ∙ sym holds.current)
-      ∙ ap (option_map (λ (r : RunSub). r.sub)) may.current)
+          ∙ ap (λ run. option_map (λ (r : RunSub). r.sub) (get run sub.0)) (ap (after_all (mounted volume)) (take_all (length history) history (omega arith)) ∙ sym holds.current)
+          ∙ ap (option_map (λ (r : RunSub). r.sub)) may.current,
+    )
 
     same_numbers : (end : Logged) (id : ℕ) (log : SubLog) → IsSameNumbers log (log_after state (event.Log caller sub ino end datasync) id log)
     same_numbers end id log = either (IsSameNumbers log) (nat_eq id sub.0) (log_stepped (get state.current id) log caller state.point ino.0 end datasync) log (λ _. stepped (get state.current id)) (λ _. record { covered = refl; open_same = refl })
@@ -287,6 +296,7 @@ module _ (volume : Volume) (coherent : IsCoherentVolume volume) (history : List 
         after_step logged.Already run = record { covered = refl; open_same = refl }
         after_step (logged.Ticket number) run = record { covered = refl; open_same = refl }
         after_step (logged.Full reason) run = record { covered = refl; open_same = refl }
+
         stepped : (o : Option RunSub) → IsSameNumbers log (log_stepped o log caller state.point ino.0 end datasync)
         stepped None = record { covered = refl; open_same = refl }
         stepped (Some run) = after_step end run
@@ -301,8 +311,8 @@ module _ (volume : Volume) (coherent : IsCoherentVolume volume) (history : List 
     logged_holds logged.Already may =
         stepped_holds logged.Already may
         (own_log logged.Already may (λ id log. LogHolds volume history id state.committed_at state.tickets log)
-          (λ log has is. already_holds volume coherent history holds.legal sub.0 state.committed_at state.tickets log (holds.logs sub.0 log has) may.run.sub (now_at logged.Already may) holds.committed caller ino.0 datasync may.has_ino may.room.failed (subst (λ l. IsAlready l may.run.sub ino.0 datasync may.room.failed) (sym is) (done may.ends)))
-          (λ id log has other. holds.logs id log has))
+        (λ log has is. already_holds volume coherent history holds.legal sub.0 state.committed_at state.tickets log (holds.logs sub.0 log has) may.run.sub (now_at logged.Already may) holds.committed caller ino.0 datasync may.has_ino may.room.failed (subst (λ l. IsAlready l may.run.sub ino.0 datasync may.room.failed) (sym is) (done may.ends)))
+        (λ id log has other. holds.logs id log has))
         (same_numbers logged.Already) (record { current = refl; point = refl; committed = refl; root = refl; full = refl; failures = refl })
         (λ left c. absurd (let some = (holds.tried_fails left c).0 in let none = (done may.ends).no_failure in let same = may.failures in omega (arith, some, none, same)))
       where
@@ -311,8 +321,8 @@ module _ (volume : Volume) (coherent : IsCoherentVolume volume) (history : List 
     logged_holds (logged.Full reason) may =
         stepped_holds (logged.Full reason) may
         (own_log (logged.Full reason) may (λ id log. LogHolds volume history id state.committed_at state.tickets log)
-          (λ log has is. full_holds volume coherent history holds.legal sub.0 state.committed_at state.tickets log (holds.logs sub.0 log has) may.run.sub (now_at (logged.Full reason) may) holds.committed caller ino.0 datasync may.has_ino reason)
-          (λ id log has other. holds.logs id log has))
+        (λ log has is. full_holds volume coherent history holds.legal sub.0 state.committed_at state.tickets log (holds.logs sub.0 log has) may.run.sub (now_at (logged.Full reason) may) holds.committed caller ino.0 datasync may.has_ino reason)
+        (λ id log has other. holds.logs id log has))
         (same_numbers (logged.Full reason)) (record { current = refl; point = refl; committed = refl; root = refl; full = refl; failures = refl })
         (λ left c id log. either (λ (l : SubLog). l.acknowledged ≡ log.acknowledged) (nat_eq id sub.0) (log_stepped (get state.current id) log caller state.point ino.0 (logged.Full reason) datasync) log (λ _. kept (get state.current id) log) (λ _. refl))
       where
@@ -322,16 +332,18 @@ module _ (volume : Volume) (coherent : IsCoherentVolume volume) (history : List 
     logged_holds (logged.Ticket number) may =
         stepped_holds (logged.Ticket number) may
         (own_log (logged.Ticket number) may (λ id log. LogHolds volume history id state.committed_at (given_ticket number ∷ other_tickets) log)
-          (λ log has is. ticket_holds volume coherent history holds.legal sub.0 state.committed_at state.tickets log (holds.logs sub.0 log has) may.run.sub (now_at (logged.Ticket number) may) holds.committed caller ino.0 datasync may.has_ino may.room number
-            (subst (λ (l : SubLog). commit_reason may.run.sub l.logged ino.0 datasync may.room ≡ None) (sym is) (ticketed may.ends).0) (subst (λ l. IsTicketOf l may.run.sub ino.0 datasync number) (sym is) (ticketed may.ends).1) other_tickets among)
-          (λ id log has other. other_ticket volume coherent history holds.legal id state.committed_at other_tickets log (fewer_tickets volume coherent history holds.legal id state.committed_at state.tickets log (holds.logs id log has) other_tickets among) (given_ticket number) (λ same. other (sym same))))
+        (λ log has is. ticket_holds volume coherent history holds.legal sub.0 state.committed_at state.tickets log (holds.logs sub.0 log has) may.run.sub (now_at (logged.Ticket number) may) holds.committed caller ino.0 datasync may.has_ino may.room number
+        (subst (λ (l : SubLog). commit_reason may.run.sub l.logged ino.0 datasync may.room ≡ None) (sym is) (ticketed may.ends).0) (subst (λ l. IsTicketOf l may.run.sub ino.0 datasync number) (sym is) (ticketed may.ends).1) other_tickets among)
+        (λ id log has other. other_ticket volume coherent history holds.legal id state.committed_at other_tickets log (fewer_tickets volume coherent history holds.legal id state.committed_at state.tickets log (holds.logs id log has) other_tickets among) (given_ticket number) (λ same. other (sym same))))
         (same_numbers (logged.Ticket number)) (record { current = refl; point = refl; committed = refl; root = refl; full = refl; failures = refl })
         (λ one c id log. either (λ (l : SubLog). l.acknowledged ≡ log.acknowledged) (nat_eq id sub.0) (log_stepped (get state.current id) log caller state.point ino.0 (logged.Ticket number) datasync) log (λ _. kept (get state.current id) log) (λ _. refl))
       where
         among : (ticket : Ticket) → Contains other_tickets ticket → Contains state.tickets ticket
         among ticket c = (filter_contains (λ (t : Ticket). not (nat_eq t.caller caller)) state.tickets ticket c).0
+
         ticketed : IsLogEnd may.log may.run.sub ino.0 datasync may.room (logged.Ticket number) → (commit_reason may.run.sub may.log.logged ino.0 datasync may.room ≡ None) × IsTicketOf may.log may.run.sub ino.0 datasync number
         ticketed (GetsTicket own not_already none ticket) = (none, ticket)
+
         kept : (o : Option RunSub) (log : SubLog) → (log_stepped o log caller state.point ino.0 (logged.Ticket number) datasync).acknowledged ≡ log.acknowledged
         kept None log = refl
         kept (Some run) log = refl

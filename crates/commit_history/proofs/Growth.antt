@@ -189,6 +189,7 @@ file_grows run place file = at (ino_at place)
     there : (ino : ℕ) (o : Option InodeRecord) → get run.sub.inodes ino ≡ o → is_dir_there o ≡ false → is_link_there o ≡ false → GrewOnce run (elim o [ None ↦ run | Some old ↦ record run { sub = with_record run.sub ino (FileInode file) } ])
     there ino None e a b = grew_not run
     there ino (Some old) e a b = record_grows run ino old (FileInode file) e (of_file old file a b)
+
     at : (o : Option ℕ) → is_dir_there (elim o [ None ↦ None | Some ino ↦ get run.sub.inodes ino ]) ≡ false → is_link_there (elim o [ None ↦ None | Some ino ↦ get run.sub.inodes ino ]) ≡ false → GrewOnce run (elim o [ None ↦ run | Some ino ↦ with_record_of run ino (FileInode file) ])
     at None a b = grew_not run
     at (Some ino) a b = there ino (get run.sub.inodes ino) refl a b
@@ -230,9 +231,11 @@ attributes_grow run place attributes = at (ino_at place)
     there : (ino : ℕ) (o : Option InodeRecord) → get run.sub.inodes ino ≡ o → (inode : InodeRecord) → o ≡ Some inode → GrewOnce run (elim o [ None ↦ run | Some old ↦ record run { sub = with_record run.sub ino (with_attributes inode attributes) } ])
     there ino None e inode same = grew_not run
     there ino (Some old) e inode same = record_grows run ino old (with_attributes inode attributes) e (ap at_creation (some_same old inode same) ∙ other_attributes inode attributes)
+
     of_record : (ino : ℕ) (o : Option InodeRecord) → get run.sub.inodes ino ≡ o → GrewOnce run (elim o [ None ↦ run | Some inode ↦ with_record_of run ino (with_attributes inode attributes) ])
     of_record ino None e = grew_not run
     of_record ino (Some inode) e = there ino (get run.sub.inodes ino) refl inode e
+
     at : (o : Option ℕ) → GrewOnce run (elim (elim o as (λ x. Option InodeRecord) [ None ↦ None | Some ino ↦ get run.sub.inodes ino ]) [ None ↦ run | Some inode ↦ elim o [ None ↦ run | Some ino ↦ with_record_of run ino (with_attributes inode attributes) ] ])
     at None = grew_not run
     at (Some ino) = of_record ino (get run.sub.inodes ino) refl

@@ -66,7 +66,8 @@ same_volume_at volume history more point before = ap (λ h. volume_of (after_all
 pub at_longer : (volume : Volume) (history more : List Operated) (id point : ℕ) (sub : Subvolume) → IsAtPoint volume history id point sub → IsAtPoint volume (history ++ more) id point sub
 at_longer volume history more id point sub at = (
   let b : point ≤ length history = at.0 in let l = length-append history more in omega (arith, b, l),
-  ap (λ v. get v id) (same_volume_at volume history more point at.0) ∙ at.1)
+  ap (λ v. get v id) (same_volume_at volume history more point at.0) ∙ at.1,
+)
 
 pub at_shorter : (volume : Volume) (history more : List Operated) (id point : ℕ) (sub : Subvolume) → point ≤ length history → IsAtPoint volume (history ++ more) id point sub → IsAtPoint volume history id point sub
 at_shorter volume history more id point sub before at = (before, ap (λ v. get v id) (sym (same_volume_at volume history more point before)) ∙ at.1)
@@ -155,12 +156,12 @@ step_keeps run operated id old there =
     elim operated.short as (λ b. (new : RunSub) × (get (cond b run (step run operated.op operated.indexes).next) id ≡ Some new)) [
       | true ↦ (old, there)
       | false ↦ step_cases (λ (o : VolumeOutcome). (new : RunSub) × (get o.next id ≡ Some new)) run operated.op operated.indexes (old, there) (old, there)
-        (λ sub here.
-            let next : RunSub = (outcome_of sub operated.op operated.indexes).next in
-            elim (cases_eq id (place_of operated.op).sub.0) [
-              | inl same ↦ (next, subst (λ q. get (insert run (place_of operated.op).sub.0 next) q ≡ Some next) (sym same) (get_insert_same run (place_of operated.op).sub.0 next))
-              | inr other ↦ (old, get_insert_other run (place_of operated.op).sub.0 next id other ∙ there)
-            ])
+          (λ sub here.
+          let next : RunSub = (outcome_of sub operated.op operated.indexes).next in
+          elim (cases_eq id (place_of operated.op).sub.0) [
+            | inl same ↦ (next, subst (λ q. get (insert run (place_of operated.op).sub.0 next) q ≡ Some next) (sym same) (get_insert_same run (place_of operated.op).sub.0 next))
+            | inr other ↦ (old, get_insert_other run (place_of operated.op).sub.0 next id other ∙ there)
+          ])
     ]
 
 pub history_keeps : (run : RunVolume) (history : List Operated) (id : ℕ) (old : RunSub) → get run id ≡ Some old → (new : RunSub) × (get (after_all run history) id ≡ Some new)

@@ -221,7 +221,7 @@ module _ (volume : Volume) (coherent : IsCoherentVolume volume) (history : List 
     -- the logged subvolume after the step survives, with the step's own promise
     step_holds : (number : Option ℕ) → IsCoherent (log_step current log.logged ino datasync) → SubSurvives volume history id committed_at (synced log caller (length history) ino datasync number ∷ logged_of log) (log_step current log.logged ino datasync)
     step_holds number whole = step_survives volume history id committed_at (logged_of log) current log.logged (synced log caller (length history) ino datasync number)
-      (record { coherent = coherent; legal = legal; now = now; survives = holds.logged_survives; committed = committed; earlier = logged_earlier; own_point = refl; step = are_step }) datasync refl whole
+        (record { coherent = coherent; legal = legal; now = now; survives = holds.logged_survives; committed = committed; earlier = logged_earlier; own_point = refl; step = are_step }) datasync refl whole
 
     pub already_holds : (failures : ℕ) → IsAlready log current ino datasync failures → LogHolds volume history id committed_at tickets (log_after_step log current caller (length history) ino logged.Already datasync)
     already_holds failures already =
@@ -294,18 +294,18 @@ module _ (volume : Volume) (coherent : IsCoherentVolume volume) (history : List 
         let whole = (step_coherent current log.logged ino datasync room are_step none).coherent in
         let survives : SubSurvives volume history id committed_at (new ∷ logged_of log) next = step_holds (Some number) whole in
         let sealed_with : (later : ℕ) → IsUncovered log later → (b : Bool) → nat_le number later ≡ b → (sub : Subvolume) × (get log.sealed later ≡ Some sub) × SubSurvives volume history id committed_at (cond b (new ∷ filter (is_up_to later) log.waiting) (filter (is_up_to later) log.waiting) ++ log.acknowledged) sub = λ later uncovered b.
-          elim b as (λ c. nat_le number later ≡ c → (sub : Subvolume) × (get log.sealed later ≡ Some sub) × SubSurvives volume history id committed_at (cond c (new ∷ filter (is_up_to later) log.waiting) (filter (is_up_to later) log.waiting) ++ log.acknowledged) sub) [
-            | true ↦ λ low.
-                let old = holds.sealed_survive later uncovered in
-                let same = ticket_of_sealed number later ticket (leb-true number later low) uncovered.1 in
-                let sub_is : old.0 ≡ next = holds.sealed_is_logged later old.0 uncovered old.1 same.1 ∙ sym same.0 in
-                let among_all : AreAmong (new ∷ covered_with log later) (new ∷ logged_of log) = λ fsync c. elim (contains_cases new (covered_with log later) fsync c) [
-                  | inl is ↦ subst (Contains (new ∷ logged_of log)) is (contains_head new (logged_of log))
-                  | inr old ↦ contains_tail new (logged_of log) fsync (covered_is_logged log later fsync old)
-                ] in
-                (old.0, old.1, weaker volume history id committed_at committed_at (omega arith) (new ∷ covered_with log later) (new ∷ logged_of log) among_all old.0 (subst (SubSurvives volume history id committed_at (new ∷ logged_of log)) (sym sub_is) survives))
-            | false ↦ λ high. holds.sealed_survive later uncovered
-          ] in
+        elim b as (λ c. nat_le number later ≡ c → (sub : Subvolume) × (get log.sealed later ≡ Some sub) × SubSurvives volume history id committed_at (cond c (new ∷ filter (is_up_to later) log.waiting) (filter (is_up_to later) log.waiting) ++ log.acknowledged) sub) [
+          | true ↦ λ low.
+              let old = holds.sealed_survive later uncovered in
+              let same = ticket_of_sealed number later ticket (leb-true number later low) uncovered.1 in
+              let sub_is : old.0 ≡ next = holds.sealed_is_logged later old.0 uncovered old.1 same.1 ∙ sym same.0 in
+              let among_all : AreAmong (new ∷ covered_with log later) (new ∷ logged_of log) = λ fsync c. elim (contains_cases new (covered_with log later) fsync c) [
+                | inl is ↦ subst (Contains (new ∷ logged_of log)) is (contains_head new (logged_of log))
+                | inr old ↦ contains_tail new (logged_of log) fsync (covered_is_logged log later fsync old)
+              ] in
+              (old.0, old.1, weaker volume history id committed_at committed_at (omega arith) (new ∷ covered_with log later) (new ∷ logged_of log) among_all old.0 (subst (SubSurvives volume history id committed_at (new ∷ logged_of log)) (sym sub_is) survives))
+          | false ↦ λ high. holds.sealed_survive later uncovered
+        ] in
         record {
           logged_survives = survives;
           durable_survives = holds.durable_survives;
@@ -335,7 +335,8 @@ module _ (volume : Volume) (coherent : IsCoherentVolume volume) (history : List 
           | inl same ↦ (
             log.logged,
             subst (λ q. get (insert log.sealed number log.logged) q ≡ Some log.logged) (sym same) (get_insert_same log.sealed number log.logged),
-            weaker volume history id committed_at committed_at (omega arith) (covered_with log later) (logged_of log) (covered_is_logged log later) log.logged holds.logged_survives)
+            weaker volume history id committed_at committed_at (omega arith) (covered_with log later) (logged_of log) (covered_is_logged log later) log.logged holds.logged_survives,
+          )
           | inr other ↦
               let old = holds.sealed_survive later (uncovered.0, older later uncovered.1 other) in
               (old.0, get_insert_other log.sealed number log.logged later other ∙ old.1, old.2)

@@ -12,7 +12,6 @@ is_key : (q k : ℕ) → eq_by_cmp nat_cmp q k ≡ true → q ≡ k
 is_key q k e = nat_cmp-IsAntisymmetric q k ((Rattle.std.specs.Cmp.Equal-is (nat_cmp q k)).0 e)
 
 module _ {A B : Type 0} where
-
   find_changed : (change : ℕ → A → B) (es : List (ℕ × A)) (q : ℕ) → find nat_cmp q (map (λ (e : ℕ × A). (e.0, change e.0 e.1)) es) ≡ option_map (change q) (find nat_cmp q es)
   find_changed change [] q = refl
   find_changed change (e ∷ es) q =

@@ -171,9 +171,9 @@ grew_agrees old new sound grew = record {
   indexes = λ here there a b same_dir same_index. elim (grew.names there b) [
     | inl kept ↦ sound.coherent.no_index_twice here there a kept same_dir same_index
     | inr above ↦ absurd (
-      let below = sound.covered.indexes here a in
-      let moved : last_index_in old.numbers here.dir < there.index = subst (λ d. last_index_in old.numbers d < there.index) (sym same_dir) above in
-      omega (arith, moved, below, same_index))
+        let below = sound.covered.indexes here a in
+        let moved : last_index_in old.numbers here.dir < there.index = subst (λ d. last_index_in old.numbers d < there.index) (sym same_dir) above in
+        omega (arith, moved, below, same_index))
   ];
 }
 

@@ -92,6 +92,7 @@ module _ (state : State) (e : Event) where
       kept : (id : ℕ) (o : Option SubLog) → option_map (log_after state e id) o ≡ o
       kept id None = refl
       kept id (Some log) = ap Some (same id log)
+
       turns_keep_logs : record (turns_after state e) { logs = state.logs } ≡ turns_after state e
       turns_keep_logs = keeps e
         where
@@ -99,6 +100,7 @@ module _ (state : State) (e : Event) where
           step_keeps caller sub logged.Already = refl
           step_keeps caller sub (logged.Ticket number) = refl
           step_keeps caller sub (logged.Full reason) = refl
+
           keeps : (x : Event) → record (turns_after state x) { logs = state.logs } ≡ turns_after state x
           keeps (event.Op caller op again end indexes) = refl
           keeps (event.Refused caller target answer) = refl
@@ -137,7 +139,8 @@ module _ (volume : Volume) (coherent : IsCoherentVolume volume) (history : List 
     there = λ id log has. (
       (log_taken (number_taken (Some commit) id) log).durable,
       changed_stays (λ id log. (log_taken (number_taken (Some commit) id) log).durable) state.logs id log has,
-      taken id log has (number_taken (Some commit) id) refl);
+      taken id log has (number_taken (Some commit) id) refl,
+    );
     only = λ id sub there. let old = changed_there (λ id log. (log_taken (number_taken (Some commit) id) log).durable) state.logs id sub there in (old.0, old.1);
   }
     where
@@ -158,9 +161,11 @@ module _ (volume : Volume) (coherent : IsCoherentVolume volume) (history : List 
       let full = holds.full commit runs in
       record {
         there = λ id log has.
-            let sub = sub_at id log commit.point has in
-            (sub.0, ap (λ v. get v id) full.is ∙ sub.1,
-              point_survives volume history coherent holds.legal id state.committed_at log.acknowledged commit.point sub.0 (full.point_now, sub.1) full.since (full.acknowledged_earlier id log has));
+            let sub = sub_at id log commit.point has in (
+              sub.0,
+              ap (λ v. get v id) full.is ∙ sub.1,
+              point_survives volume history coherent holds.legal id state.committed_at log.acknowledged commit.point sub.0 (full.point_now, sub.1) full.since (full.acknowledged_earlier id log has),
+            );
         only = λ id sub there. first_had id sub commit.point (ap (λ v. get v id) (sym full.is) ∙ there);
       }
     where
@@ -176,6 +181,7 @@ module _ (volume : Volume) (coherent : IsCoherentVolume volume) (history : List 
       of_root : (o : Option RootCommit) → state.root ≡ o → Contains (elim o as (λ x. List Volume) [ None ↦ [] | Some root ↦ volume_by_root state root ∷ [] ]) left → LeftSurvives volume history state left
       of_root None e c = absurd (contains_none left c)
       of_root (Some commit) e c = elim (contains_cases (volume_by_root state commit) [] left c) [ inl same ↦ subst (LeftSurvives volume history state) same (root_survives commit e) | inr none ↦ absurd (contains_none left none) ]
+
       of_full : (o : Option FullCommit) → state.full ≡ o → Contains (elim o as (λ x. List Volume) [ None ↦ [] | Some full ↦ full.volume ∷ [] ]) left → LeftSurvives volume history state left
       of_full None e c = absurd (contains_none left c)
       of_full (Some commit) e c = elim (contains_cases commit.volume [] left c) [ inl same ↦ subst (LeftSurvives volume history state) same (full_survives commit e) | inr none ↦ absurd (contains_none left none) ]
@@ -214,6 +220,7 @@ none_ready log number none ready =
   where
     not_written : (n : ℕ) → is_written log n ≡ false
     not_written n = ap (λ slots. list_any (λ (slot : Slot). nat_eq slot.number n && slot.written) slots) none
+
     unwritten : (count : ℕ) → 1 ≤ count → list_all (is_written log) (range_with_len (log.covered + 1) count) ≡ true → ⊥
     unwritten zero some all = absurd (omega (arith, some))
     unwritten (suc count) some all = true≢false (sym (and_parts (is_written log (log.covered + 1)) (list_all (is_written log) (range_with_len (log.covered + 1 + 1) count)) all).0 ∙ not_written (log.covered + 1))
@@ -298,6 +305,7 @@ module _ (volume : Volume) (coherent : IsCoherentVolume volume) (history : List 
         no_slots = may.no_slot_is_busy;
         no_root = may.root_is_free;
       }
+
       sealed : (commit : FullCommit) → (let made : FullCommit = record { holder = caller; volume = volume_of state.current; point = state.point; wants = state.wants } in made) ≡ commit → FullHolds volume history (turns_after state (event.SealFull caller)) commit
       sealed commit same = subst (FullHolds volume history (turns_after state (event.SealFull caller))) same own
 
@@ -332,6 +340,7 @@ module _ (volume : Volume) (coherent : IsCoherentVolume volume) (history : List 
     where
       grown : length history ≤ length (history ++ operated_by op indexes end ∷ [])
       grown = let l = length-append history (operated_by op indexes end ∷ []) in omega (arith, l)
+
       same_run : (x : OpEnd) → operated state.current op indexes x ≡ after_one state.current (operated_by op indexes x)
       same_run (ends.Answered answer) = refl
       same_run (ends.Short free need) = refl

@@ -138,6 +138,7 @@ module _ (volume : Volume) (history : List Operated) (id committed_at : ℕ) (ac
       or_right : (a b : Bool) → b ≡ true → a || b ≡ true
       or_right true b e = refl
       or_right false b e = e
+
       target_is_dir : is_dir_at current fsync.ino ≡ true
       target_is_dir = elim (cases_Bool (is_parent current.names ino fsync.ino)) [
         | inl here ↦ let found = parent_gives current.names ino fsync.ino here in subst (λ d. is_dir_at current d ≡ true) found.3 (given.step.current_coherent.stands_in_dir found.0 found.1)
@@ -152,11 +153,11 @@ module _ (volume : Volume) (history : List Operated) (id committed_at : ℕ) (ac
   same_names ino same =
       same_name_set _ _ (is_name_set_filter (leads_to ino) current.names given.step.current_coherent.in_order) (is_name_set_filter (leads_to ino) logged.names given.step.logged_coherent.in_order)
       (λ q c.
-          let found = filter_contains (leads_to ino) current.names q c in
-          contains_filter (leads_to ino) logged.names q found.1 (same_names_here current logged given.step.agree q (subst (λ i. do_names_differ current logged i ≡ false) (sym (eqb-true q.ino ino found.1)) same) found.0))
+      let found = filter_contains (leads_to ino) current.names q c in
+      contains_filter (leads_to ino) logged.names q found.1 (same_names_here current logged given.step.agree q (subst (λ i. do_names_differ current logged i ≡ false) (sym (eqb-true q.ino ino found.1)) same) found.0))
       (λ q c.
-          let found = filter_contains (leads_to ino) logged.names q c in
-          contains_filter (leads_to ino) current.names q found.1 (same_names_there current logged given.step.agree q (subst (λ i. do_names_differ current logged i ≡ false) (sym (eqb-true q.ino ino found.1)) same) found.0))
+      let found = filter_contains (leads_to ino) logged.names q c in
+      contains_filter (leads_to ino) current.names q found.1 (same_names_there current logged given.step.agree q (subst (λ i. do_names_differ current logged i ≡ false) (sym (eqb-true q.ino ino found.1)) same) found.0))
 
   -- the current subvolume is the only one at the end
   only_now : (then_ : Subvolume) → IsAtPoint volume history id fsync.point then_ → then_ ≡ current
@@ -208,7 +209,7 @@ module _ (volume : Volume) (history : List Operated) (id committed_at : ℕ) (ac
   stepped_names_survive ino inode e =
       elim (cases_Bool (is_in members ino)) [
         | inl member ↦ of_current ino (names_of next.names ino)
-          (sym (filter_of_members current logged fsync.ino members given.step.current_coherent.in_order (leads_to ino) (λ q t. subst (λ i. is_in members i ≡ true) (sym (eqb-true q.ino ino t)) member)))
+            (sym (filter_of_members current logged fsync.ino members given.step.current_coherent.in_order (leads_to ino) (λ q t. subst (λ i. is_in members i ≡ true) (sym (eqb-true q.ino ino t)) member)))
         | inr outside ↦
             let same : names_of next.names ino ≡ names_of logged.names ino =
             filter_of_others current logged fsync.ino members given.step.logged_coherent.in_order (leads_to ino) (λ q t. subst (λ i. is_in members i ≡ false) (sym (eqb-true q.ino ino t)) outside) in
@@ -281,15 +282,15 @@ module _ (volume : Volume) (history : List Operated) (id committed_at : ℕ) (ac
       let is : (elim (get current.inodes fsync.ino) [ None ↦ logged | Some inode ↦ record logged { inodes = insert logged.inodes fsync.ino inode } ]) ≡ made = ap (λ o. elim o [ None ↦ logged | Some inode ↦ record logged { inodes = insert logged.inodes fsync.ino inode } ]) now.1 in
       let more : (one : Synced) (names : one.names ≡ true) → Contains all one → Contains acknowledged one = λ one names c. elim (contains_cases fsync acknowledged one c) [ inl same ↦ absurd (true≢false (sym names ∙ ap (λ (f : Synced). f.names) (sym same) ∙ no_names)) | inr old ↦ old ] in
       let names_of_old : (ino : ℕ) (inode : InodeRecord) → get logged.inodes ino ≡ Some inode → NamesSurvive volume history id committed_at all ino (names_of logged.names ino) = λ ino inode has.
-          let was = given.survives.names ino inode has in
-          record {
-            point = was.point;
-            there = was.there;
-            at = was.at;
-            since = names_alone ino was.point no_names was.since;
-            in_directory = λ one name c names member in_dir. was.in_directory one name (more one names c) names member in_dir;
-            same = was.same;
-          } in
+      let was = given.survives.names ino inode has in
+      record {
+        point = was.point;
+        there = was.there;
+        at = was.at;
+        since = names_alone ino was.point no_names was.since;
+        in_directory = λ one name c names member in_dir. was.in_directory one name (more one names c) names member in_dir;
+        same = was.same;
+      } in
       subst (SubSurvives volume history id committed_at all) (sym is) (record {
         coherent = subst IsCoherent is coherent;
         records = λ ino inode e. elim (insert_cases logged.inodes fsync.ino now.0 ino inode e) [

@@ -53,12 +53,16 @@ no_call = record { stage = Ended None; cover = covers.Open; events = 0 }
 -- What a call answers, where it has finished. One whose ticket or want was covered has, also before its next turn (own).
 abbrev pub answer_of : Call → Option Answer
 answer_of call = elim call.stage [
-    | Ended answer ↦ answer
-    | WasShort op sealed ↦ None
-    | HasTicket sub number part ↦ elim call.cover [ covers.Open ↦ None | covers.Root ↦ Some answers.Log | covers.Full ↦ Some answers.Full ]
-    | Commits reason sealed ↦ elim call.cover [ covers.Open ↦ None | covers.Root ↦ None | covers.Full ↦ Some (answers.Commit reason) ]
-    | Syncs sealed ↦ elim call.cover [ covers.Open ↦ None | covers.Root ↦ None | covers.Full ↦ Some answers.Sync ]
-  ]
+  | Ended answer ↦ answer
+  | WasShort op sealed ↦ None
+  | HasTicket sub number part ↦ elim call.cover [ covers.Open ↦ None | covers.Root ↦ Some answers.Log | covers.Full ↦ Some answers.Full ]
+  | Commits reason sealed ↦ elim call.cover [ covers.Open ↦ None | covers.Root ↦ None | covers.Full ↦ Some (answers.Commit reason) ]
+  | Syncs sealed ↦ elim call.cover [ covers.Open ↦ None | covers.Root ↦ None | covers.Full ↦ Some answers.Sync ]
+]
+
+-- a call that has finished still has its answer
+abbrev pub KeepsAnswer : Call → Call → Type 0
+KeepsAnswer call next = (answer : Answer) → answer_of call ≡ Some answer → answer_of next ≡ Some answer
 
 -- ---- what an event does to a call
 
@@ -84,16 +88,16 @@ log_stage sub (logged.Full reason) = Commits reason false
 -- a call that asks: an fsync whose ticket isn't covered, because of so many failures, else a new sync
 abbrev pub asked : Call → ℕ → Call
 asked call failures = elim call.stage [
-    | Ended answer ↦ begun (Syncs false)
-    | WasShort op sealed ↦ begun (Syncs false)
-    | HasTicket sub number part ↦ elim call.cover [
-        | covers.Open ↦ at_stage call (Commits (reasons.FailedLog failures) false)
-        | covers.Root ↦ begun (Syncs false)
-        | covers.Full ↦ begun (Syncs false)
-      ]
-    | Commits reason sealed ↦ begun (Syncs false)
-    | Syncs sealed ↦ begun (Syncs false)
+  | Ended answer ↦ begun (Syncs false)
+  | WasShort op sealed ↦ begun (Syncs false)
+  | HasTicket sub number part ↦ elim call.cover [
+    | covers.Open ↦ at_stage call (Commits (reasons.FailedLog failures) false)
+    | covers.Root ↦ begun (Syncs false)
+    | covers.Full ↦ begun (Syncs false)
   ]
+  | Commits reason sealed ↦ begun (Syncs false)
+  | Syncs sealed ↦ begun (Syncs false)
+]
 
 -- a stage whose number has come so far
 abbrev pub with_part : Stage → Part → Stage
@@ -226,16 +230,16 @@ want_duty sealed = cond sealed EndsFull SealsFull
 -- what a call does next (own)
 abbrev pub duty : State → Call → Duty
 duty state call = elim call.cover [
-    | covers.Open ↦ elim call.stage [
-        | Ended answer ↦ Begins
-        | WasShort op sealed ↦ want_duty sealed
-        | HasTicket sub number part ↦ ticket_duty state sub number part
-        | Commits reason sealed ↦ want_duty sealed
-        | Syncs sealed ↦ want_duty sealed
-      ]
-    | covers.Root ↦ Begins
-    | covers.Full ↦ elim call.stage [ WasShort op sealed ↦ TriesAgain op | _ ↦ Begins ]
+  | covers.Open ↦ elim call.stage [
+    | Ended answer ↦ Begins
+    | WasShort op sealed ↦ want_duty sealed
+    | HasTicket sub number part ↦ ticket_duty state sub number part
+    | Commits reason sealed ↦ want_duty sealed
+    | Syncs sealed ↦ want_duty sealed
   ]
+  | covers.Root ↦ Begins
+  | covers.Full ↦ elim call.stage [ WasShort op sealed ↦ TriesAgain op | _ ↦ Begins ]
+]
 
 -- An event is the one that a duty gives its caller. A part that was written while a failure stands is given up (own).
 pub data IsDone (state : State) (caller : ℕ) : Duty → Event → Type 0 where

@@ -3,4 +3,3 @@ pub mod Effects
 pub mod Legal
 pub mod Calls
 pub mod Survival
-pub mod Running

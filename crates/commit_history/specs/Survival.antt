@@ -7,6 +7,7 @@ use Rattle.flat_model.specs.Coherent.{IsCoherent}
 use Rattle.flat_model.specs.Volume.{Subvolume, Volume, RunSub}
 use Rattle.flat_model.specs.Step.{Operated, volume_at}
 use Rattle.flat_model.specs.Points.{IsPoint}
+use Rattle.logged_volume.specs.Agreement.{Agree}
 use Rattle.commit_history.specs.declared.event.Event.{Event}
 use Rattle.commit_history.specs.declared.event.Event.TheVariants as event
 use Rattle.commit_history.specs.State.{Synced, SubLog, RootCommit, FullCommit, State, HasLog, changed, mounted_state, durable_volume, number_taken}
@@ -117,7 +118,8 @@ abbrev pub tried_from : State → List Volume → List Event → List Volume
 tried_from state tried [] = tried
 tried_from state tried (event ∷ events) = tried_from (after state event) (tried_after state tried event) events
 
--- Each volume that a crash may leave after these events: the durable one, that of the superblock being written, and those of superblocks whose write failed (own).
+-- Each volume that a crash may leave after these events: the durable one, that of the superblock being written, and those of
+-- superblocks whose write failed (own).
 unfoldable pub possible_volumes : Volume → List Event → List Volume
 possible_volumes volume events = durable_volume (state_of volume events) ∷ next_volumes (state_of volume events) ++ tried_from (mounted_state volume) [] events
 
@@ -127,3 +129,32 @@ possible_volumes volume events = durable_volume (state_of volume events) ∷ nex
 pub data IsStateOf (state : State) (id : ℕ) : Subvolume → Type 0 where
   IsCurrent : (run : RunSub) → get state.current id ≡ Some run → IsStateOf state id run.sub
   IsLogged : (log : SubLog) → HasLog state id log → IsStateOf state id log.logged
+
+-- ---- what the laws say of a whole history
+
+-- what a subvolume is at any two points agrees
+abbrev pub PointsAgree : Volume → List Operated → Type 0
+PointsAgree volume history =
+    (id one_point two_point : ℕ) (one two : Subvolume) → IsAtPoint volume history id one_point one → IsAtPoint volume history id two_point two → Agree one two
+
+-- an inode that isn't there at one point and is there at a later one was made between them
+abbrev pub CreationIsAPoint : Volume → List Operated → Type 0
+CreationIsAPoint volume history =
+    (id ino early late : ℕ) (one two : Subvolume) (inode : InodeRecord) → early ≤ late → IsAtPoint volume history id early one → get one.inodes ino ≡ None
+    → IsAtPoint volume history id late two → get two.inodes ino ≡ Some inode → IsMadeBetween volume history id ino early late inode
+
+-- the current and the logged subvolumes of a state are coherent
+abbrev pub AreCoherent : State → Type 0
+AreCoherent state = (id : ℕ) (sub : Subvolume) → IsStateOf state id sub → IsCoherent sub
+
+-- the current and the logged subvolumes of two states agree pairwise
+abbrev pub DoAgree : State → State → Type 0
+DoAgree early late = (id : ℕ) (one two : Subvolume) → IsStateOf early id one → IsStateOf late id two → Agree one two
+
+-- each volume that a crash may leave survives
+abbrev pub CrashesSurvive : Volume → List Event → Type 0
+CrashesSurvive volume events = (left : Volume) → Contains (possible_volumes volume events) left → Survives volume events left
+
+-- no subvolume's open log number falls from one state to the other
+abbrev pub NumbersRise : State → State → Type 0
+NumbersRise early late = (id : ℕ) (old new : SubLog) → HasLog early id old → HasLog late id new → old.open_number ≤ new.open_number

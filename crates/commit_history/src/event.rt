@@ -71,21 +71,47 @@ pub enum Event {
         datasync: bool,
     },
     /// The caller asks for a commit of the whole volume.
-    Ask { caller: u32 },
+    Ask {
+        caller: u32,
+    },
     /// The log of a subvolume gets no more items under this number, and its blocks are handed out.
-    SealSub { caller: u32, sub: SubId, number: u64 },
+    SealSub {
+        caller: u32,
+        sub: SubId,
+        number: u64,
+    },
     /// These blocks are written.
-    SubWritten { caller: u32, sub: SubId, number: u64 },
+    SubWritten {
+        caller: u32,
+        sub: SubId,
+        number: u64,
+    },
     /// The log root is made, and its blocks and superblock are handed out.
-    SealRoot { caller: u32 },
+    SealRoot {
+        caller: u32,
+    },
     /// That superblock is written.
-    RootDone { caller: u32 },
+    RootDone {
+        caller: u32,
+    },
     /// The whole volume is sealed, and its blocks and superblock are handed out.
-    SealFull { caller: u32 },
+    SealFull {
+        caller: u32,
+    },
     /// That superblock is written.
-    FullDone { caller: u32 },
+    FullDone {
+        caller: u32,
+    },
     /// The caller's device call in this turn failed; `tried` where its superblock may be written.
-    Failed { caller: u32, turn: Turn, tried: bool },
+    Failed {
+        caller: u32,
+        turn: Turn,
+        tried: bool,
+    },
     /// After a failure, the caller gives up the slot of this number.
-    GiveUp { caller: u32, sub: SubId, number: u64 },
+    GiveUp {
+        caller: u32,
+        sub: SubId,
+        number: u64,
+    },
 }

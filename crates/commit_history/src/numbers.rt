@@ -1,11 +1,11 @@
-ghost use Rattle.std.specs.Prelude.{◌≡◌, ◌≤◌, ℕ, List};
-ghost use Rattle.flat_model.specs.Volume.{Volume};
+ghost use Rattle.std.specs.Prelude.{List};
 ghost use Rattle.commit_history.specs.declared.event.Event.{Event};
-ghost use Rattle.commit_history.specs.State.{State, SubLog, HasLog};
+ghost use Rattle.commit_history.specs.State.{State};
 ghost use Rattle.commit_history.specs.Effects.{after_events};
 ghost use Rattle.commit_history.specs.Legal.{IsLegalFrom};
+ghost use Rattle.commit_history.specs.Survival.{NumbersRise};
 
-/// Law: log numbers are never used again: a subvolume's open number never falls (own).
+/// Law: log numbers are never used again: no subvolume's open number falls (own).
 pub fn log_numbers_rise()
-    ensures { (state : State) (events : List Event) (id : ℕ) (old new : SubLog) → IsLegalFrom state events → HasLog state id old → HasLog (after_events state events) id new → old.open_number ≤ new.open_number }
+    ensures { (state : State) (events : List Event) → IsLegalFrom state events → NumbersRise state (after_events state events) }
 {}
