@@ -1,27 +1,27 @@
 -- What holds after every legal list of events, and what follows: all that a crash may leave survives, and all states agree.
-use Rattle.std.proofs.Common.{◌≡◌, ℕ, zero, suc, ◌<◌, ◌≤◌, ◌+◌, Bool, true, false, cond, List, [], ◌∷◌, ◌++◌, length, take, drop, Option, Some, None, refl, sym, ap, subst, ◌∙◌, arith, inl, inr, ◌⊎◌}
+use Rattle.std.proofs.Common.{◌≡◌, ℕ, zero, suc, List, [], ◌∷◌, ◌++◌, length, take, drop, refl, sym, ap, subst, ◌∙◌, arith, inl, inr}
 use Rattle.std.specs.Option.{option_map}
 use Rattle.std.specs.List.{Contains}
 use Rattle.std.specs.FinMap.{get}
 use Rattle.std.proofs.lemmas.List.{append_assoc, append-nil, take-append-drop, take_all}
 use Rattle.std.proofs.lemmas.List.Elements.{Contains-append_cases}
-use Rattle.flat_model.specs.Volume.{Subvolume, Volume, RunSub, mounted, volume_of}
+use Rattle.flat_model.specs.Volume.{Subvolume, Volume, RunSub, mounted}
 use Rattle.flat_model.specs.Coherent.{IsCoherent, IsCoherentVolume}
-use Rattle.flat_model.specs.Step.{Operated, IsHistory, after_all, volume_at}
+use Rattle.flat_model.specs.Step.{Operated, after_all}
 use Rattle.flat_model.proofs.Lists.{contains_cases, contains_none}
 use Rattle.flat_model.proofs.Maps.{some_same, some_none}
 use Rattle.flat_model.proofs.Histories.{get_volume_of, volume_of_mounted}
 use Rattle.logged_volume.specs.Agreement.{Agree}
 use Rattle.commit_history.specs.declared.event.Event.{Event}
 use Rattle.commit_history.specs.declared.event.Event.TheVariants as event
-use Rattle.commit_history.specs.State.{Synced, SubLog, State, HasLog, bare_log, mounted_state, durable_volume, number_taken}
+use Rattle.commit_history.specs.State.{State, bare_log, mounted_state, durable_volume}
 use Rattle.commit_history.specs.Effects.{after, after_events, state_of}
 use Rattle.commit_history.specs.Legal.{IsLegalFrom, IsLegal, operated_by}
-use Rattle.commit_history.specs.Survival.{IsAtPoint, SubSurvives, Survives, IsStateOf, IsCurrent, IsLogged, operations_of, next_volumes, tried_after, tried_from, possible_volumes}
+use Rattle.commit_history.specs.Survival.{IsAtPoint, SubSurvives, Survives, IsStateOf, IsCurrent, IsLogged, operations_of, next_volumes, tried_from, possible_volumes}
 use Rattle.commit_history.proofs.Maps.{changed_there, changed_stays}
-use Rattle.commit_history.proofs.Lasting.{AreAmong, weaker, longer, point_survives, survivors_agree}
-use Rattle.commit_history.proofs.LogHolding.{LogHolds, logged_of, logged_earlier, bare_holds}
-use Rattle.commit_history.proofs.StateHolding.{LeftSurvives, Holds, durable_survives_now, next_survive, sub_at, refused_holds, asked_holds, root_sealed_holds, full_sealed_holds, operated_holds}
+use Rattle.commit_history.proofs.Lasting.{weaker, longer, point_survives, survivors_agree}
+use Rattle.commit_history.proofs.LogHolding.{LogHolds, logged_of, bare_holds}
+use Rattle.commit_history.proofs.StateHolding.{LeftSurvives, Holds, durable_survives_now, next_survive, refused_holds, asked_holds, root_sealed_holds, full_sealed_holds, operated_holds}
 use Rattle.commit_history.proofs.EventsHold.{written_holds, given_up_holds, sealed_holds, root_done_holds, full_done_holds, failed_holds, logged_holds}
 
 mounted_holds : (volume : Volume) → IsCoherentVolume volume → Holds volume [] [] (mounted_state volume)

@@ -1,10 +1,8 @@
 -- A call that has finished stays so, and a call makes few events.
-use Rattle.std.proofs.Common.{◌≡◌, ◌≢◌, ℕ, ◌<◌, ◌≤◌, ◌+◌, Bool, true, false, cond, not, List, [], ◌∷◌, Option, Some, None, refl, sym, ap, subst, ◌∙◌, arith, inl, inr}
-use Rattle.std.specs.Bool.{nat_eq}
+use Rattle.std.proofs.Common.{◌≡◌, ◌≢◌, ℕ, ◌≤◌, ◌+◌, Bool, true, false, cond, List, [], ◌∷◌, Option, Some, refl, sym, ap, subst, arith, inl, inr}
 use Rattle.std.proofs.lemmas.Bool.{true≢false, ne_eqb, eq-eqb, cases_eq}
 use Rattle.flat_model.specs.declared.op.Op.{Op}
 use Rattle.flat_model.specs.declared.answer.Answer.{Answer}
-use Rattle.flat_model.specs.declared.answer.Reason.{Reason}
 use Rattle.flat_model.specs.Volume.{Volume}
 use Rattle.flat_model.proofs.Maps.{some_none}
 use Rattle.commit_history.specs.declared.event.Event.{Event}
@@ -13,11 +11,10 @@ use Rattle.commit_history.specs.declared.event.Cover.{Cover}
 use Rattle.commit_history.specs.declared.event.Cover.TheVariants as covers
 use Rattle.commit_history.specs.declared.event.Logged.{Logged}
 use Rattle.commit_history.specs.declared.event.Logged.TheVariants as logged
-use Rattle.commit_history.specs.declared.event.OpEnd.{OpEnd}
 use Rattle.commit_history.specs.declared.event.OpEnd.TheVariants as ends
-use Rattle.commit_history.specs.State.{State, mounted_state, is_taken}
+use Rattle.commit_history.specs.State.{State, mounted_state}
 use Rattle.commit_history.specs.Effects.{after}
-use Rattle.commit_history.specs.Calls.{Part, Unsealed, Sealed, Written, InRoot, GaveUp, Stage, Ended, WasShort, HasTicket, Commits, Syncs, Call, no_call, answer_of, op_stage, log_stage, asked, with_seal, covered_by, is_covered_by_root, is_covered_by_full, after_own, after_other, caller_of, call_after, call_after_all, call_of, Duty, Begins, TriesAgain, EndsPart, EndsRoot, EndsFull, SealsSub, SealsRoot, SealsFull, GivesUp, Asks, is_stopped, is_open_number, ticket_duty, want_duty, duty, IsDone, Operates, Refuses, Logs, AsksFirst, OperatesAgain, PartWritten, PartGivenUp, PartFailed, RootWritten, RootFailed, FullWritten, FullFailed, SealsPart, SealsLogs, SealsVolume, GivesSlotUp, AsksForFull, FollowsRules, IsRuled}
+use Rattle.commit_history.specs.Calls.{Unsealed, Sealed, Written, InRoot, GaveUp, Stage, Ended, WasShort, HasTicket, Commits, Syncs, Call, no_call, answer_of, log_stage, asked, with_seal, covered_by, is_covered_by_root, is_covered_by_full, after_own, after_other, caller_of, call_after, call_after_all, call_of, Begins, TriesAgain, EndsPart, EndsRoot, SealsSub, SealsRoot, GivesUp, Asks, is_stopped, is_open_number, want_duty, duty, IsDone, Operates, Refuses, Logs, AsksFirst, OperatesAgain, PartWritten, PartGivenUp, PartFailed, RootWritten, RootFailed, FullWritten, FullFailed, SealsPart, SealsLogs, SealsVolume, GivesSlotUp, AsksForFull, FollowsRules, IsRuled}
 
 -- ---- a finished call
 

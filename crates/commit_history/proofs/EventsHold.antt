@@ -1,45 +1,33 @@
 -- Log steps, seals, commits and failures keep what holds of the state.
-use Rattle.std.proofs.Common.{◌≡◌, ◌≢◌, ℕ, zero, suc, ◌<◌, ◌≤◌, ◌+◌, ◌-◌, Bool, true, false, cond, not, ◌&&◌, List, [], ◌∷◌, ◌++◌, length, take, Option, Some, None, refl, sym, ap, subst, ◌∙◌, arith, inl, inr, ◌⊎◌}
-use Rattle.std.specs.Bool.{nat_eq, nat_le, nat_lt}
-use Rattle.std.specs.Ordering.{nat_cmp}
-use Rattle.std.specs.Cmp.{nat_cmp_total}
-use Rattle.std.specs.Option.{unwrap_or, option_map}
-use Rattle.std.specs.List.{Contains, filter, list_any, list_all, last_or, range_with_len}
-use Rattle.std.specs.FinMap.{FinMap, get, same_map, nat_cmp-IsAntisymmetric}
-use Rattle.std.proofs.lemmas.Bool.{true≢false, cases_Bool, eqb-true, eq-eqb, ltb-true, leb-false, and_parts, not-true}
-use Rattle.std.proofs.lemmas.List.{take_all, append_assoc, length-append}
+use Rattle.std.proofs.Common.{◌≡◌, ◌≢◌, ℕ, ◌<◌, ◌≤◌, ◌+◌, Bool, true, false, cond, not, List, [], ◌∷◌, ◌++◌, length, take, Option, Some, None, refl, sym, ap, subst, ◌∙◌, arith, inl, inr}
+use Rattle.std.specs.Bool.{nat_eq, nat_le}
+use Rattle.std.specs.Option.{option_map}
+use Rattle.std.specs.List.{Contains, filter}
+use Rattle.std.specs.FinMap.{get}
+use Rattle.std.proofs.lemmas.Bool.{true≢false, eqb-true, eq-eqb, leb-false, not-true}
+use Rattle.std.proofs.lemmas.List.{take_all}
 use Rattle.std.proofs.lemmas.List.Elements.{Contains-append_cases}
-use Rattle.flat_model.specs.declared.op.Op.{Op}
-use Rattle.flat_model.specs.declared.place.Place.{Place}
-use Rattle.flat_model.specs.declared.answer.Answer.{Answer}
-use Rattle.flat_model.specs.declared.answer.Reason.{Reason}
-use Rattle.flat_model.specs.Volume.{Subvolume, Volume, RunSub, RunVolume, mounted, volume_of}
+use Rattle.flat_model.specs.Volume.{Volume, RunSub, mounted}
 use Rattle.flat_model.specs.Coherent.{IsCoherentVolume}
-use Rattle.flat_model.specs.Step as operation
-use Rattle.flat_model.specs.Step.{Operated, IsHistory, step, after_one, after_all, volume_at}
-use Rattle.flat_model.proofs.Lists.{contains_head, contains_tail, contains_cases, contains_none, contains_filter, filter_contains}
+use Rattle.flat_model.specs.Step.{Operated, after_all}
+use Rattle.flat_model.proofs.Lists.{contains_none, filter_contains}
 use Rattle.flat_model.proofs.Maps.{some_same, some_none}
-use Rattle.flat_model.proofs.Histories.{get_volume_of, volume_of_mounted}
+use Rattle.flat_model.proofs.Histories.{get_volume_of}
 use Rattle.blk_base.specs.declared.key.SubId.{SubId}
 use Rattle.blk_base.specs.declared.key.Ino.{Ino}
 use Rattle.commit_history.specs.declared.event.Event.{Event}
 use Rattle.commit_history.specs.declared.event.Event.TheVariants as event
 use Rattle.commit_history.specs.declared.event.Logged.{Logged}
 use Rattle.commit_history.specs.declared.event.Logged.TheVariants as logged
-use Rattle.commit_history.specs.declared.event.OpEnd.{OpEnd}
-use Rattle.commit_history.specs.declared.event.OpEnd.TheVariants as ends
 use Rattle.commit_history.specs.declared.event.Turn.{Turn}
 use Rattle.commit_history.specs.declared.event.Turn.TheVariants as turns
-use Rattle.commit_history.specs.State.{Slot, Synced, SubLog, Ticket, RootCommit, FullCommit, State, HasLog, bare_log, changed, mounted_state, durable_volume, number_taken, is_taken, is_ready, is_written, uncovered_numbers, greatest_ready}
-use Rattle.commit_history.specs.Effects.{after, after_events, turns_after, log_after, log_after_step, log_stepped, log_taken, log_with, sub_sealed, log_failed, log_covered, log_sealed, point_at_seal, operated, numbers_ready, root_without, full_without, slots_written, slots_without, slots_without_holder, state_after_step}
-use Rattle.commit_history.specs.Legal.{MayCome, MayLog, MaySealSub, MaySealRoot, MaySealFull, MayFail, HoldsRoot, HoldsFull, IsLegalFrom, IsLogEnd, IsDone, Commits, GetsTicket, IsAlready, IsTicketOf, operated_by}
-use Rattle.commit_history.specs.Survival.{IsAtPoint, SubSurvives, operations_of, next_volumes, volume_by_root, tried_after, tried_from}
-use Rattle.commit_history.proofs.Maps.{changed_there, changed_stays, get_changed}
-use Rattle.commit_history.proofs.LogNumbers.{log_before, log_afterwards}
-use Rattle.commit_history.proofs.Lasting.{AreAmong, weaker, longer, point_survives, same_volume_at, at_longer, history_more, after_more, there_at, was_first}
-use Rattle.commit_history.proofs.LogHolding.{LogHolds, IsUncovered, covered_with, acknowledged_is_covered, with_slots, fewer_tickets, other_ticket, already_holds, full_holds, ticket_holds, seal_holds, cover_holds, commit_holds, fail_holds, longer_holds, bare_holds}
+use Rattle.commit_history.specs.State.{Slot, Synced, SubLog, Ticket, State, HasLog, number_taken, is_taken}
+use Rattle.commit_history.specs.Effects.{after, turns_after, log_after, log_after_step, log_stepped, log_taken, log_with, sub_sealed, log_sealed, point_at_seal, root_without, slots_written, slots_without, slots_without_holder, state_after_step}
+use Rattle.commit_history.specs.Legal.{MayLog, MaySealSub, MayFail, HoldsRoot, HoldsFull, IsLogEnd, IsDone, GetsTicket, IsAlready, IsTicketOf}
+use Rattle.commit_history.specs.Survival.{IsAtPoint, next_volumes}
+use Rattle.commit_history.proofs.LogHolding.{LogHolds, IsUncovered, with_slots, fewer_tickets, other_ticket, already_holds, full_holds, ticket_holds, seal_holds, cover_holds, commit_holds, fail_holds}
 use Rattle.logged_volume.specs.Rules.{commit_reason}
-use Rattle.commit_history.proofs.StateHolding.{LeftSurvives, FullHolds, Holds, either, logs_after, ids_after, ids_back_after, left_after, next_survive, sub_at, root_without_was, full_without_was, taken_without, none_taken}
+use Rattle.commit_history.proofs.StateHolding.{LeftSurvives, Holds, either, logs_after, ids_after, ids_back_after, left_after, next_survive, sub_at, full_without_was, taken_without, none_taken}
 
 -- two logs have the same numbers
 record IsSameNumbers (old new : SubLog) : Type 0 where

@@ -1,23 +1,23 @@
 -- What one operation leaves of a subvolume: names and inodes that were there, or new ones above all that were.
-use Rattle.std.proofs.Common.{◌≡◌, ◌≢◌, ℕ, ◌<◌, ◌≤◌, ◌+◌, max, Bool, true, false, cond, List, [], ◌∷◌, length, Option, Some, None, refl, sym, ap, subst, ◌∙◌, arith, inl, inr, ◌⊎◌}
-use Rattle.std.specs.Bool.{nat_eq, nat_lt, ⊤}
+use Rattle.std.proofs.Common.{◌≡◌, ℕ, ◌<◌, ◌≤◌, ◌+◌, false, List, [], ◌∷◌, length, Option, Some, None, refl, sym, ap, subst, ◌∙◌, arith, inl, inr, ◌⊎◌}
+use Rattle.std.specs.Bool.{nat_lt}
 use Rattle.std.specs.Option.{unwrap_or}
-use Rattle.std.specs.List.{Contains, fold, slice_index}
-use Rattle.std.specs.FinMap.{get, insert, remove, empty}
+use Rattle.std.specs.List.{Contains, slice_index}
+use Rattle.std.specs.FinMap.{get, insert, remove}
 use Rattle.std.proofs.lemmas.Bool.{true≢false}
 use Rattle.blk_base.specs.Crc.{name_hash_of}
 use Rattle.flat_model.specs.declared.answer.Answer.{Answer}
-use Rattle.flat_model.specs.declared.answer.Answer.TheVariants.{Plain, Number, NoEnt, Xdev, NotDir, TooLarge, Collide}
+use Rattle.flat_model.specs.declared.answer.Answer.TheVariants.{Plain, Number, NoEnt, NotDir, TooLarge, Collide}
 use Rattle.flat_model.specs.declared.op.Op.{Op}
 use Rattle.flat_model.specs.declared.op.Op.TheVariants.{Create, Mkdir, Symlink, Link, Unlink, Rmdir, Rename, Exchange, Lookup, Write, Truncate, Read, SetAttr, DelAttr, GetAttr}
 use Rattle.flat_model.specs.Records.{InodeRecord, FileRecord, Attributes, FileInode, DirInode, LinkInode, at_creation, attributes_of, with_attributes, new_file, new_dir, new_link}
-use Rattle.flat_model.specs.Names.{FlatName, add_name, remove_name, links_of}
+use Rattle.flat_model.specs.Names.{FlatName, add_name}
 use Rattle.flat_model.specs.Lengths.{most_item_bytes, xattr_item_length}
 use Rattle.flat_model.specs.Contents.{most_file_bytes, written, truncated}
-use Rattle.flat_model.specs.Volume.{Subvolume, RunNumbers, RunSub, RunVolume, is_dir_there, is_link_there, last_index_in, note_name, note_ino}
+use Rattle.flat_model.specs.Volume.{Subvolume, RunSub, RunVolume, is_dir_there, is_link_there, last_index_in, note_name, note_ino}
 use Rattle.flat_model.specs.Walk.{WalkEnd, AtRoot, AtSlot, Missing, Blocked, walk, ino_at, record_at, is_absent, is_blocked}
-use Rattle.flat_model.specs.Operations.{Outcome, unchanged, make, make_rows, make_done, link, link_rows, link_done, unlink, unlink_rows, rmdir, rmdir_rows, removal_done, rename, rename_rows, rename_done, exchange, exchange_rows, exchange_done, lookup, file_rows, file_there, write, truncate, read, with_record, with_record_of, with_record_at, attributes_there, with_attributes_at, attribute_rows, set_attribute, remove_attribute, get_attribute, new_name, names_without, without_name, without_entry}
-use Rattle.flat_model.specs.Step.{VolumeOutcome, volume_unchanged, with_outcome, outcome_of, step, place_of, numbers_in, AreNextIndexes}
+use Rattle.flat_model.specs.Operations.{Outcome, unchanged, make, make_rows, make_done, link, link_rows, link_done, unlink, unlink_rows, rmdir, rmdir_rows, removal_done, rename, rename_rows, rename_done, exchange, exchange_rows, exchange_done, lookup, file_rows, file_there, write, truncate, read, with_record, with_record_of, with_record_at, attributes_there, with_attributes_at, attribute_rows, set_attribute, remove_attribute, get_attribute, new_name, names_without, without_entry}
+use Rattle.flat_model.specs.Step.{VolumeOutcome, outcome_of, step, place_of, numbers_in, AreNextIndexes}
 use Rattle.flat_model.proofs.Maps.{some_same, insert_cases}
 use Rattle.flat_model.proofs.NameSets.{add_name_cases, remove_name_gives}
 use Rattle.flat_model.proofs.Edits.{without_gives}

@@ -1,22 +1,21 @@
 -- What survives goes on surviving: where less is acknowledged, and where the history goes on.
-use Rattle.std.proofs.Common.{◌≡◌, ℕ, zero, suc, ◌<◌, ◌≤◌, ◌+◌, Bool, true, false, cond, List, [], ◌∷◌, ◌++◌, length, take, Option, Some, None, refl, sym, ap, subst, ◌∙◌, arith, inl, inr, ◌⊎◌}
+use Rattle.std.proofs.Common.{◌≡◌, ℕ, ◌≤◌, true, false, cond, List, [], ◌∷◌, ◌++◌, length, take, Option, Some, None, refl, sym, ap, subst, ◌∙◌, arith, inl, inr}
 use Rattle.std.specs.Option.{option_map}
-use Rattle.std.specs.List.{Contains, fold}
+use Rattle.std.specs.List.{Contains}
 use Rattle.std.specs.FinMap.{get, insert}
 use Rattle.std.proofs.lemmas.List.{take-append-le, length-append}
-use Rattle.flat_model.specs.Records.{InodeRecord}
 use Rattle.flat_model.specs.Names.{FlatName, names_of, leads_to}
 use Rattle.flat_model.specs.Volume.{Subvolume, Volume, RunSub, RunVolume, numbers_at_mount, mounted, volume_of}
-use Rattle.flat_model.specs.Coherent.{IsCoherent, IsCoherentVolume}
-use Rattle.flat_model.specs.Step.{VolumeOutcome, Operated, MayCome, IsHistory, IsChoice, step, place_of, outcome_of, after_one, after_all, volume_at}
+use Rattle.flat_model.specs.Coherent.{IsCoherentVolume}
+use Rattle.flat_model.specs.Step.{VolumeOutcome, Operated, MayCome, IsHistory, step, place_of, outcome_of, after_one, after_all, volume_at}
 use Rattle.flat_model.proofs.Lists.{contains_filter, filter_contains}
-use Rattle.flat_model.proofs.Maps.{some_same, some_none, get_insert_same, get_insert_other}
+use Rattle.flat_model.proofs.Maps.{some_none, get_insert_same, get_insert_other}
 use Rattle.flat_model.proofs.Steps.{step_cases}
 use Rattle.flat_model.proofs.Histories.{get_mounted, volume_at_coherent}
 use Rattle.std.proofs.lemmas.Bool.{eq-eqb, cases_eq}
 use Rattle.logged_volume.specs.Agreement.{Agree}
 use Rattle.commit_history.specs.State.{Synced}
-use Rattle.commit_history.specs.Survival.{IsAtPoint, HasNameIn, IsSinceData, IsSinceNames, RecordSurvives, NamesSurvive, AbsenceSurvives, SubSurvives}
+use Rattle.commit_history.specs.Survival.{IsAtPoint, IsSinceData, IsSinceNames, SubSurvives}
 use Rattle.commit_history.proofs.PointsOf.{points_agree, run_at, sub_of_run, grew_between}
 
 -- each fsync of the first list is in the second

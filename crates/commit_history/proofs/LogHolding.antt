@@ -1,30 +1,29 @@
 -- What holds of a subvolume's log at all times, and that each event keeps it.
-use Rattle.std.proofs.Common.{◌≡◌, ◌≢◌, ℕ, ◌<◌, ◌≤◌, ◌+◌, ◌-◌, Bool, true, false, cond, not, List, [], ◌∷◌, ◌++◌, length, Option, Some, None, refl, sym, ap, subst, ◌∙◌, arith, inl, inr, ◌⊎◌}
+use Rattle.std.proofs.Common.{◌≡◌, ◌≢◌, ℕ, ◌<◌, ◌≤◌, ◌+◌, Bool, true, false, cond, not, List, [], ◌∷◌, ◌++◌, length, Option, Some, None, refl, sym, ap, subst, ◌∙◌, arith, inl, inr}
 use Rattle.std.specs.Bool.{nat_eq, nat_le, ⊤}
 use Rattle.std.specs.Option.{is_some, unwrap_or}
 use Rattle.std.specs.List.{Contains, filter}
 use Rattle.std.specs.FinMap.{get, insert}
-use Rattle.std.proofs.lemmas.Bool.{true≢false, cases_eq, cases_Bool, leb-true, leb-false, le-leb, not-true, not_from_false}
+use Rattle.std.proofs.lemmas.Bool.{true≢false, cases_eq, cases_Bool, leb-true, le-leb}
 use Rattle.std.proofs.lemmas.List.{length-append}
 use Rattle.std.proofs.lemmas.List.Elements.{Contains-append_left, Contains-append_right, Contains-append_cases}
 use Rattle.flat_model.specs.declared.answer.Reason.{Reason}
-use Rattle.flat_model.specs.Volume.{Subvolume, Volume, RunSub, mounted}
+use Rattle.flat_model.specs.Volume.{Subvolume, Volume, mounted}
 use Rattle.flat_model.specs.Coherent.{IsCoherent, IsCoherentVolume}
 use Rattle.flat_model.specs.Step.{Operated, IsHistory}
 use Rattle.flat_model.proofs.Lists.{contains_head, contains_tail, contains_cases, contains_none, contains_filter, filter_contains}
 use Rattle.flat_model.proofs.Maps.{some_same, some_none, get_insert_same, get_insert_other}
-use Rattle.logged_volume.specs.Agreement.{Agree, AreStep, is_there}
+use Rattle.logged_volume.specs.Agreement.{AreStep, is_there}
 use Rattle.logged_volume.specs.LogStep.{log_step}
 use Rattle.logged_volume.specs.Rules.{RoomNumbers, commit_reason}
 use Rattle.logged_volume.proofs.BothForms.{step_coherent}
-use Rattle.commit_history.specs.declared.event.Logged.{Logged}
 use Rattle.commit_history.specs.declared.event.Logged.TheVariants as logged
 use Rattle.commit_history.specs.State.{Slot, Synced, SubLog, Ticket, bare_log}
 use Rattle.commit_history.specs.Effects.{synced, is_up_to, undurable_above, log_after_step, log_sealed, log_covered, log_committed, log_failed}
-use Rattle.commit_history.specs.Legal.{IsAlready, IsTicketOf, IsOpen, IsNewest, IsLogEnd, IsDone, Commits, GetsTicket}
+use Rattle.commit_history.specs.Legal.{IsAlready, IsTicketOf, IsOpen, IsNewest}
 use Rattle.commit_history.specs.Survival.{IsAtPoint, SubSurvives}
 use Rattle.commit_history.proofs.Lasting.{AreAmong, weaker, longer, point_survives, survivors_agree}
-use Rattle.commit_history.proofs.StepSurvives.{StepOf, step_survives}
+use Rattle.commit_history.proofs.StepSurvives.{step_survives}
 
 -- an fsync that has a ticket
 abbrev pub has_number : Synced → Bool

@@ -1,5 +1,5 @@
 -- The volumes at two points of a history: what the later has was there at the earlier, or came between.
-use Rattle.std.proofs.Common.{◌≡◌, ◌≢◌, ℕ, zero, suc, ◌<◌, ◌≤◌, ◌+◌, Bool, true, false, cond, List, [], ◌∷◌, length, take, Option, Some, None, refl, sym, ap, subst, ◌∙◌, arith, inl, inr, ◌⊎◌}
+use Rattle.std.proofs.Common.{◌≡◌, ℕ, zero, suc, ◌<◌, ◌≤◌, true, false, cond, List, [], ◌∷◌, length, take, Option, Some, None, refl, sym, ap, subst, ◌∙◌, arith, inl, inr, ◌⊎◌}
 use Rattle.std.specs.Bool.{nat_le}
 use Rattle.std.specs.Option.{option_map}
 use Rattle.std.specs.List.{Contains}
@@ -7,7 +7,7 @@ use Rattle.std.specs.FinMap.{get}
 use Rattle.std.proofs.lemmas.Bool.{leb-true, leb-false}
 use Rattle.flat_model.specs.Records.{InodeRecord, FileInode, DirInode, LinkInode, at_creation, kind_of}
 use Rattle.flat_model.specs.Names.{FlatName}
-use Rattle.flat_model.specs.Volume.{Subvolume, Volume, RunSub, RunVolume, last_index_in, mounted, volume_of}
+use Rattle.flat_model.specs.Volume.{Subvolume, Volume, RunSub, RunVolume, last_index_in, mounted}
 use Rattle.flat_model.specs.Coherent.{IsCoherentVolume}
 use Rattle.flat_model.specs.Step.{Operated, MayCome, IsHistory, IsChoice, step, after_one, after_all, volume_at}
 use Rattle.flat_model.specs.Running.{IsSound, IsSoundVolume}
@@ -16,7 +16,7 @@ use Rattle.flat_model.proofs.Steps.{after_one_sound}
 use Rattle.flat_model.proofs.Histories.{get_volume_of, mounted_sound}
 use Rattle.logged_volume.specs.Agreement.{Agree}
 use Rattle.commit_history.specs.Survival.{IsAtPoint, IsMadeBetween}
-use Rattle.commit_history.proofs.Growth.{GrewOnce, WasThere, IsNew, grew_not, step_grows}
+use Rattle.commit_history.proofs.Growth.{GrewOnce, WasThere, grew_not, step_grows}
 
 -- ---- more than one operation
 

@@ -1,26 +1,26 @@
 -- A log step leaves a logged volume that survives, with what the step itself promises.
-use Rattle.std.proofs.Common.{◌≡◌, ◌≢◌, ℕ, ◌<◌, ◌≤◌, ◌+◌, Bool, true, false, cond, not, ◌&&◌, ◌||◌, List, [], ◌∷◌, ◌++◌, length, Option, Some, None, refl, sym, ap, subst, ◌∙◌, arith, inl, inr, ◌⊎◌}
+use Rattle.std.proofs.Common.{◌≡◌, ◌≢◌, ℕ, ◌≤◌, Bool, true, false, cond, not, ◌||◌, List, ◌∷◌, length, Some, None, refl, sym, ap, subst, ◌∙◌, arith, inl, inr}
 use Rattle.std.specs.Bool.{nat_eq}
-use Rattle.std.specs.Option.{unwrap_or, is_some}
-use Rattle.std.specs.List.{Contains, filter}
+use Rattle.std.specs.Option.{unwrap_or}
+use Rattle.std.specs.List.{Contains}
 use Rattle.std.specs.FinMap.{get, insert}
 use Rattle.std.proofs.lemmas.Bool.{true≢false, and_parts, and_from, eqb-true, eq-eqb, ne_eqb, cases_eq, cases_Bool}
 use Rattle.flat_model.specs.Records.{InodeRecord, at_creation}
-use Rattle.flat_model.specs.Names.{FlatName, names_of, leads_to, is_name_set}
+use Rattle.flat_model.specs.Names.{FlatName, names_of, leads_to}
 use Rattle.flat_model.specs.Volume.{Subvolume, Volume, is_dir_at, mounted}
 use Rattle.flat_model.specs.Coherent.{IsCoherent, IsCoherentVolume}
 use Rattle.flat_model.specs.Step.{Operated, IsHistory, volume_at}
-use Rattle.flat_model.proofs.Lists.{contains_head, contains_tail, contains_cases, contains_filter, filter_contains}
+use Rattle.flat_model.proofs.Lists.{contains_cases, contains_filter, filter_contains}
 use Rattle.flat_model.proofs.Maps.{some_same, some_none, get_insert_same, get_insert_other, insert_cases}
 use Rattle.flat_model.proofs.NameSets.{is_name_set_filter, same_name_set}
 use Rattle.logged_volume.specs.Numbers.{is_in}
-use Rattle.logged_volume.specs.Agreement.{Agree, AreStep, is_there, do_names_differ}
+use Rattle.logged_volume.specs.Agreement.{AreStep, is_there, do_names_differ}
 use Rattle.logged_volume.specs.Drawn.{drawn_set, is_data_form, is_first, is_parent}
-use Rattle.logged_volume.specs.LogStep.{member_record, stepped_record, stepped, with_data, log_step}
+use Rattle.logged_volume.specs.LogStep.{member_record, stepped, with_data, log_step}
 use Rattle.logged_volume.proofs.LeastSets.{least_set_closed, parent_from, parent_gives}
-use Rattle.logged_volume.proofs.Stepped.{there_gives, there_from, absent_gives, agree_on_dir, dir_is_there, same_names_here, same_names_there, filter_of_members, filter_of_others, stepped_inode, other_inode}
+use Rattle.logged_volume.proofs.Stepped.{there_gives, agree_on_dir, dir_is_there, same_names_here, same_names_there, filter_of_members, filter_of_others, stepped_inode, other_inode}
 use Rattle.commit_history.specs.State.{Synced}
-use Rattle.commit_history.specs.Survival.{IsAtPoint, HasNameIn, IsSinceData, IsSinceNames, IsMadeBetween, RecordSurvives, NamesSurvive, AbsenceSurvives, SubSurvives}
+use Rattle.commit_history.specs.Survival.{IsAtPoint, IsSinceData, IsSinceNames, RecordSurvives, NamesSurvive, AbsenceSurvives, SubSurvives}
 use Rattle.commit_history.proofs.PointsOf.{inode_made}
 
 -- what the proof of a step stands on: the history so far, the current subvolume at its end, the logged one that survives, and the fsync that makes the step

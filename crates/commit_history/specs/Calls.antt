@@ -14,13 +14,11 @@ use Rattle.commit_history.specs.declared.event.Logged.{Logged}
 use Rattle.commit_history.specs.declared.event.Logged.TheVariants as logged
 use Rattle.commit_history.specs.declared.event.OpEnd.{OpEnd}
 use Rattle.commit_history.specs.declared.event.OpEnd.TheVariants as ends
-use Rattle.commit_history.specs.declared.event.Turn.{Turn}
 use Rattle.commit_history.specs.declared.event.Turn.TheVariants as turns
 use Rattle.commit_history.specs.declared.event.Cover.{Cover}
 use Rattle.commit_history.specs.declared.event.Cover.TheVariants as covers
-use Rattle.commit_history.specs.State.{SubLog, State, mounted_state, is_taken}
+use Rattle.commit_history.specs.State.{State, mounted_state, is_taken}
 use Rattle.commit_history.specs.Effects.{after, has_ticket, wants_at_seal}
-use Rattle.commit_history.specs.Legal.{MayCome}
 
 -- What a call with a ticket has done with its log number: nothing, sealed it so that its blocks are being written, had them written, begun the
 -- root commit that takes it, or given up its slot after a failure (own).

@@ -21,7 +21,7 @@ use Rattle.commit_history.specs.declared.event.OpEnd.{OpEnd}
 use Rattle.commit_history.specs.declared.event.OpEnd.TheVariants as ends
 use Rattle.commit_history.specs.declared.event.Turn.{Turn}
 use Rattle.commit_history.specs.declared.event.Turn.TheVariants as turns
-use Rattle.commit_history.specs.State.{Slot, SubLog, Ticket, RootCommit, FullCommit, State, HasLog, is_slot_busy, is_ready, is_taken, mounted_state}
+use Rattle.commit_history.specs.State.{SubLog, Ticket, RootCommit, FullCommit, State, HasLog, is_slot_busy, is_ready, is_taken, mounted_state}
 use Rattle.commit_history.specs.Effects.{after}
 
 -- ---- operations

@@ -1,5 +1,5 @@
 -- The state of a mounted volume: the volumes, where each subvolume's log stands, and who holds or wants which turn.
-use Rattle.std.specs.Prelude.{◌≡◌, ℕ, ◌+◌, ◌-◌, ◌%◌, ◌&&◌, Bool, false, cond, List, [], ◌∷◌, map, filter, Option, Some, None, unwrap_or, is_some, nat_le, nat_lt, nat_eq}
+use Rattle.std.specs.Prelude.{◌≡◌, ℕ, ◌+◌, ◌-◌, ◌%◌, ◌&&◌, Bool, false, List, [], map, filter, Option, Some, None, unwrap_or, nat_le, nat_lt, nat_eq}
 use Rattle.std.specs.Ordering.{nat_cmp}
 use Rattle.std.specs.List.{list_any, list_all, last_or, range_with_len}
 use Rattle.std.specs.FinMap.{FinMap, empty, get, entries, from_entries}

@@ -1,5 +1,5 @@
 -- What a crash may leave after some events, and when it survives them.
-use Rattle.std.specs.Prelude.{◌≡◌, ℕ, ◌<◌, ◌≤◌, Bool, true, List, [], ◌∷◌, ◌++◌, length, cond, Option, Some, None, unwrap_or, Contains}
+use Rattle.std.specs.Prelude.{◌≡◌, ℕ, ◌<◌, ◌≤◌, true, List, [], ◌∷◌, ◌++◌, cond, Some, None, Contains}
 use Rattle.std.specs.FinMap.{get}
 use Rattle.flat_model.specs.Records.{InodeRecord, at_creation}
 use Rattle.flat_model.specs.Names.{FlatName, names_of}
@@ -10,7 +10,7 @@ use Rattle.flat_model.specs.Points.{IsPoint}
 use Rattle.logged_volume.specs.Agreement.{Agree}
 use Rattle.commit_history.specs.declared.event.Event.{Event}
 use Rattle.commit_history.specs.declared.event.Event.TheVariants as event
-use Rattle.commit_history.specs.State.{Synced, SubLog, RootCommit, FullCommit, State, HasLog, changed, mounted_state, durable_volume, number_taken}
+use Rattle.commit_history.specs.State.{Synced, SubLog, RootCommit, State, HasLog, changed, mounted_state, durable_volume, number_taken}
 use Rattle.commit_history.specs.Effects.{after, log_taken, state_of}
 use Rattle.commit_history.specs.Legal.{operated_by}
 
