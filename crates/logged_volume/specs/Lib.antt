@@ -9,3 +9,4 @@ pub mod Accepted
 pub mod Written
 pub mod Standing
 pub mod Weight
+pub mod Laws
