@@ -10,3 +10,4 @@ pub mod Written
 pub mod Standing
 pub mod Weight
 pub mod Laws
+pub mod Worked

@@ -17,4 +17,4 @@ pub use drawn::{drawn_set_is_least, intervals_are_maximal, stranded_directory_is
 pub use logs::{empty_logs_say_committed, logs_are_replayed, steps_write_logs};
 pub use steps::{log_steps_keep_agreement, log_steps_keep_coherence};
 pub use weights::steps_bound_logs;
-pub use worked::{worked_intervals, worked_reasons};
+pub use worked::{worked_directories, worked_intervals, worked_reasons};
