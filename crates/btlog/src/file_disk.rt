@@ -2,16 +2,11 @@ ghost use Rattle.std.specs.Prelude.{◌≡◌};
 ghost use Rattle.disk_model.specs.Disk.{HasCause};
 
 use blk_base::Block;
+use blk_base::format::{BLOCK_SIZE, SUPER_BLOCK};
 use disk_model::{Disk, DiskFailed};
 use std::fs::File;
 use std::io;
 use std::os::unix::fs::FileExt;
-
-/// The bytes of a block.
-const BLOCK_SIZE: u64 = 4096;
-
-/// The block of the superblock.
-const SUPER_BLOCK: u32 = 16;
 
 /// The disk in a file: as many blocks as the file has whole pieces of 4096 bytes, at most 2^32 - 1. It tells nothing of
 /// its content.

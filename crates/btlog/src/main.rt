@@ -7,6 +7,7 @@
 mod file_disk;
 mod standard;
 
+use blk_base::format::BLOCK_SIZE;
 use file_disk::FileDisk;
 use script_runner::{Status, blocks_asked, drive};
 use standard::{ReaderSource, WriterSink};
@@ -15,9 +16,6 @@ use std::fs::{File, OpenOptions};
 use std::io::ErrorKind;
 use std::process::ExitCode;
 use std::{env, io};
-
-/// The bytes of a block.
-const BLOCK_SIZE: u64 = 4096;
 
 const VERSION: &str = "btlog 0.1.0";
 

@@ -2,4 +2,3 @@ pub mod Record
 pub mod RecordLaws
 pub mod MemoryDisk
 pub mod NeverFails
-pub mod ListDisk

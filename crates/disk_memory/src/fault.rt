@@ -2,14 +2,9 @@ ghost use Rattle.std.specs.Prelude.{◌≡◌, ◌<◌, ◌↔◌, replicate, If
 
 use crate::blocks::Blocks;
 use blk_base::OutOfMemory;
+use blk_base::limits::{FEWEST_BLOCKS, MOST_BLOCKS};
 use std::alloc::Global;
 use thiserror::Error;
-
-/// The fewest blocks of a disk in memory.
-pub const FEWEST_BLOCKS: u32 = 4096;
-
-/// The most blocks of a disk in memory.
-pub const MOST_BLOCKS: u32 = 65536;
 
 /// Why there is no such disk in memory.
 #[derive(Clone, Copy, Debug, PartialEq, Eq, Error)]

@@ -18,7 +18,7 @@ mod plan;
 #[cfg(test)]
 mod tests;
 
-pub use fault::{FEWEST_BLOCKS, MOST_BLOCKS, MemoryDiskFault};
+pub use fault::MemoryDiskFault;
 pub use list_disk::ListDisk;
 pub use memory_disk::MemoryDisk;
 pub use never_fails::NeverFails;

@@ -1,29 +1,24 @@
-ghost use Rattle.std.specs.Prelude.{◌≡◌, IfOk, OnOk};
+ghost use Rattle.std.specs.Prelude.{◌≡◌};
 ghost use Rattle.disk_model.specs.Disk.{HasCause};
 
 use blk_base::{Block, OutOfMemory};
 use disk_model::{Disk, DiskFailed};
 use std::alloc::Global;
 
-/// A disk of any size that keeps the calls made on it and what they wrote, and fails at one of them. It tells nothing.
+/// A disk of `BLOCKS` blocks that keeps the calls made on it and what they wrote, and fails at one of them. It tells
+/// nothing.
 #[derive(Drop)]
-pub struct ListDisk {
-    count: u32,
+pub struct ListDisk<const BLOCKS: u32> {
     calls: Vec<u32>,
     blocks: Vec<(u32, Box<Block>)>,
     fails: usize,
     faults: u64,
 }
 
-impl ListDisk {
-    ghost use Rattle.disk_memory.specs.ListDisk.{list_count};
-
-    /// A disk of `count` blocks of zeros. `fails`: the number of the call that fails, from 1; none for 0.
-    pub fn new(alloc: Global, count: u32, fails: usize) -> ListDisk
-        ensures { list_count result ≡ count }
-    {
+impl<const BLOCKS: u32> ListDisk<BLOCKS> {
+    /// A disk of zeros. `fails`: the number of the call that fails, from 1; none for 0.
+    pub fn new(alloc: Global, fails: usize) -> ListDisk<BLOCKS> {
         ListDisk {
-            count,
             calls: Vec::new(alloc),
             blocks: Vec::new(alloc),
             fails,
@@ -47,9 +42,12 @@ impl ListDisk {
     }
 
     /// Puts bytes into a block, without a call.
-    pub fn put(&mut self, at: u32, block: &Block) -> Result<(), OutOfMemory>
-        ensures count { list_count self.new ≡ list_count self.old }
-        ensures faults { self.new.faults ≡ self.old.faults }
+    pub fn put(&mut self, at: u32, block: &Block) -> Result<(), OutOfMemory> {
+        self.keep(at, block)
+    }
+
+    fn keep(&mut self, at: u32, block: &Block) -> Result<(), OutOfMemory>
+        ensures { self.new.faults ≡ self.old.faults }
     {
         let alloc = *self.blocks.allocator();
         let copy = Box::new(alloc, *block)?;
@@ -58,8 +56,7 @@ impl ListDisk {
     }
 
     fn call(&mut self, at: u32) -> Result<(), DiskFailed>
-        ensures count { list_count self.new ≡ list_count self.old }
-        ensures cause { HasCause self.old.faults self.new.faults result }
+        ensures { HasCause self.old.faults self.new.faults result }
     {
         let kept = self.calls.push(at).is_ok();
         if kept && self.calls.len() != self.fails {
@@ -69,30 +66,27 @@ impl ListDisk {
     }
 
     fn fail(&mut self) -> Result<(), DiskFailed>
-        ensures count { list_count self.new ≡ list_count self.old }
-        ensures cause { HasCause self.old.faults self.new.faults result }
+        ensures { HasCause self.old.faults self.new.faults result }
     {
         self.faults = self.faults.saturating_add(1);
         Err(DiskFailed)
     }
 
-    fn put_by_call(&mut self, at: u32, block: &Block) -> Result<(), DiskFailed>
-        ensures count { list_count self.new ≡ list_count self.old }
-        ensures cause { HasCause self.old.faults self.new.faults result }
+    fn write_at(&mut self, at: u32, block: &Block) -> Result<(), DiskFailed>
+        ensures { HasCause self.old.faults self.new.faults result }
     {
         self.call(at)?;
-        if self.put(at, block).is_err() {
+        if self.keep(at, block).is_err() {
             return self.fail();
         }
         Ok(())
     }
 }
 
-impl Disk for ListDisk {
+impl<const BLOCKS: u32> Disk for ListDisk<BLOCKS> {
     ghost use Rattle.std.specs.Prelude.{None, []};
-    ghost use Rattle.disk_memory.specs.ListDisk.{list_count};
 
-    ghost count = { list_count };
+    ghost count = { λ _. BLOCKS };
 
     ghost seen = { λ _. None };
 
@@ -103,7 +97,7 @@ impl Disk for ListDisk {
     ghost faults = { λ disk. disk.faults };
 
     fn blocks(&self) -> u32 {
-        self.count
+        BLOCKS
     }
 
     fn read(&mut self, at: u32, into: &mut Block) -> Result<(), DiskFailed> {
@@ -116,11 +110,11 @@ impl Disk for ListDisk {
     }
 
     fn write(&mut self, at: u32, from: &Block) -> Result<(), DiskFailed> {
-        self.put_by_call(at, from)
+        self.write_at(at, from)
     }
 
     fn write_super(&mut self, from: &Block) -> Result<(), DiskFailed> {
-        self.put_by_call(16, from)
+        self.write_at(16, from)
     }
 
     fn flush(&mut self) -> Result<(), DiskFailed> {

@@ -103,7 +103,7 @@ fn other_disks(rt: HostRuntime) -> Result<(), Fail> {
     assert_eq!(rt; get(&mut disk, 16)?[17], 9);
     assert_eq!(rt; get(&mut disk, 101)?[17], 0);
 
-    let mut disk = ListDisk::new(rt.alloc(), 4096, 3);
+    let mut disk = ListDisk::<4096>::new(rt.alloc(), 3);
     assert_eq!(rt; commit(&mut disk, 9), Err(DiskFailed));
     assert_eq!(rt; get(&mut disk, 100)?[17], 9);
     assert_eq!(rt; get(&mut disk, 16)?[17], 0);

@@ -528,3 +528,9 @@ known_told seen (at ∷ lost) P holds = tt
 -- what a read gives stays
 pub known_same : (before after : Option Image) (lost lost' : List ℕ) → after ≡ before → lost' ≡ lost → known after lost' ≡ known before lost
 known_same before after lost lost' seen same = ap (λ (image : Option Image). known image lost') seen ∙ ap (known before) same
+
+-- what a read of any block gives, where the record is told and no block is lost
+pub known_as_told : (seen : Option Image) (lost : List ℕ) (told : Option Told) → IfTold told (λ record_. seen ≡ Some (image_now record_)) → IfTold told (λ record_. lost ≡ (held_now record_).lost)
+    → IfTold told (λ record_. (held_now record_).lost ≡ [] → known seen lost ≡ Some (image_now record_))
+known_as_told seen lost None reads same = tt
+known_as_told seen lost (Some told) reads same = λ none. ap (known seen) (same ∙ none) ∙ reads

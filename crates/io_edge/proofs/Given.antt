@@ -1,5 +1,5 @@
 -- What a source has given, piece behind piece.
-use Rattle.std.proofs.Common.{◌≡◌, ◌≤◌, ◌++◌, [], ℕ, List, length, take, Option, Some, None, Result, Ok, Err, refl, sym, ap, ◌∙◌, append_assoc, length-append, arith}
+use Rattle.std.proofs.Common.{◌≡◌, ◌≤◌, ◌+◌, ◌++◌, [], ℕ, List, length, take, Option, Some, None, Result, Ok, Err, refl, sym, ap, ◌∙◌, append_assoc, length-append, arith}
 use Rattle.std.proofs.lemmas.List.{length-take}
 use Rattle.io_edge.specs.declared.reading.ReadFault.{ReadFault}
 use Rattle.io_edge.specs.declared.reading.ReadFault.TheVariants.{Failed, OutOfMemory}

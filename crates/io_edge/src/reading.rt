@@ -3,7 +3,8 @@ ghost use Rattle.io_edge.specs.Edge.{Gives};
 ghost use Rattle.io_edge.specs.Reading.{HasEnded, HasGivenSome, IsCutShort};
 
 use crate::{Source, SourceFailed};
-use blk_base::{MOST_SCRIPT_BYTES, OutOfMemory};
+use blk_base::OutOfMemory;
+use blk_base::limits::MOST_SCRIPT_BYTES;
 use std::alloc::Global;
 use thiserror::Error;
 
@@ -52,11 +53,11 @@ pub fn read_all<S: Source>(alloc: Global, from: &mut S) -> Result<Vec<u8>, ReadF
             }
         }
     }
+    let most = MOST_SCRIPT_BYTES as u64;
     match from.read(&mut part[..1]) {
         Ok(0) => Ok(bytes),
-        Ok(_) | Err(SourceFailed) => Err(ReadFault::Failed {
-            taken: MOST_SCRIPT_BYTES as u64,
-        }),
+        Ok(_) => Err(ReadFault::Failed { taken: most }),
+        Err(SourceFailed) => Err(ReadFault::Failed { taken: most }),
     }
 }
 

@@ -10,18 +10,13 @@ ghost use Rattle.one_leaf.specs.LeafItems.{file_blocks};
 ghost use Rattle.one_leaf.specs.OneLeaf.{IsOneLeafSub};
 ghost use Rattle.leaf_image.specs.Image.{IsSubLeaf, addresses_of};
 
+use blk_base::format::{FS_TREE, ROOT_TREE};
 use blk_base::{Addr, Block, Key, OutOfMemory, Want};
 use flat_sub::FlatSub;
 use leaf_edit::LeafMut;
 use one_leaf::put_items;
 use std::alloc::Global;
 use volume_format::{RootItem, Super};
-
-/// The owner of the root tree's blocks ("Objectids" of the on-disk format).
-const ROOT_TREE: u64 = 1;
-
-/// The first subvolume, and the owner of its blocks ("Objectids" of the on-disk format).
-const FS_TREE: u64 = 5;
 
 /// The key of the subvolume's root item ("ROOT_ITEM" of the on-disk format).
 const ROOT_KEY: Key = Key {

@@ -1,10 +1,9 @@
 ghost use Rattle.std.specs.Prelude.{◌≡◌, IfOk};
-ghost use Rattle.disk_model.specs.Disk.{HasCause};
 ghost use Rattle.leaf_run.specs.Run.{IsRunning};
 
 use super::*;
-use blk_base::{Addr, Block};
-use disk_model::{Disk, DiskFailed};
+use blk_base::Addr;
+use disk_memory::ListDisk;
 use flat_volume::FlatVolume;
 use io_edge::MemorySink;
 use leaf_run::LeafRun;
@@ -14,82 +13,6 @@ use script_text::parse;
 use std::alloc::Global;
 use std::test::Fail;
 use volume_format::Super;
-
-/// A disk of 4096 blocks that keeps the calls made on it, and fails at one. It tells nothing.
-#[derive(Drop)]
-struct ListDisk {
-    // The block of each write, 16 for the superblock, and 0 for a flush.
-    calls: Vec<u32>,
-    // The number of the call that fails, from 1.
-    fails: usize,
-    faults: u64,
-}
-
-impl ListDisk {
-    fn new(alloc: Global, fails: usize) -> ListDisk {
-        ListDisk {
-            calls: Vec::new(alloc),
-            fails,
-            faults: 0,
-        }
-    }
-
-    fn call(&mut self, at: u32) -> Result<(), DiskFailed>
-        ensures { HasCause self.old.faults self.new.faults result }
-    {
-        let kept = self.calls.push(at).is_ok();
-        if kept && self.calls.len() != self.fails {
-            return Ok(());
-        }
-        self.faults = self.faults.saturating_add(1);
-        Err(DiskFailed)
-    }
-}
-
-impl Disk for ListDisk {
-    ghost use Rattle.std.specs.Prelude.{[], None};
-
-    ghost count = { λ _. 4096 };
-
-    ghost seen = { λ _. None };
-
-    ghost lost = { λ _. [] };
-
-    ghost told = { λ _. None };
-
-    ghost faults = { λ disk. disk.faults };
-
-    ghost reads_as_told = { λ _. tt };
-
-    ghost lost_as_told = { λ _. tt };
-
-    ghost reads_blocks = { λ _. tt };
-
-    ghost reads_all = { λ _. tt };
-
-    ghost reads_as_left = { λ _. tt };
-
-    fn blocks(&self) -> u32 {
-        4096
-    }
-
-    fn read(&mut self, _at: u32, into: &mut Block) -> Result<(), DiskFailed> {
-        *into = [0; 4096];
-        self.call(1)
-    }
-
-    fn write(&mut self, at: u32, _from: &Block) -> Result<(), DiskFailed> {
-        self.call(at)
-    }
-
-    fn write_super(&mut self, _from: &Block) -> Result<(), DiskFailed> {
-        self.call(16)
-    }
-
-    fn flush(&mut self) -> Result<(), DiskFailed> {
-        self.call(0)
-    }
-}
 
 /// The superblock of a volume of 4096 blocks, whose leaves stand in blocks 17 and 18.
 fn first() -> Super
@@ -141,7 +64,7 @@ fn ran(
     };
     a_script_is_allowed();
     let mut run = begun(alloc)?;
-    let mut disk = ListDisk::new(alloc, disk_fails);
+    let mut disk = ListDisk::<4096>::new(alloc, disk_fails);
     let mut to = MemorySink::new(alloc, sink_fails)?;
     let answer = run_lines(alloc, script.lines(), &mut run, &mut disk, &mut to);
     Ok((answer, to))

@@ -1,5 +1,6 @@
 -- What a store knows of its disk, and what a crash may leave of it.
 use Rattle.std.specs.Prelude.{◌≡◌, ◌≢◌, AllPairs, ◌≤◌, ◌+◌, ◌-◌, ◌^◌, ◌/◌, ◌⊎◌, ◌++◌, min, ℕ, List, [], length, map, All, Contains, Bool, true, false, Option, Some, None, Result, Ok, Err, slice_get, slice_set, IfSome, nat_eq}
+pub use Rattle.blk_base.specs.Causes.{HasRisen}
 use Rattle.std.specs.List.{list_any}
 use Rattle.blk_base.specs.declared.key.Addr.{Addr}
 use Rattle.blk_base.specs.Address.{IsAllowed}
@@ -146,7 +147,3 @@ pub record AreFree (blocks count : ℕ) (taken : List ℕ) (addresses : List Add
   pub once : NoneTwice (addresses_of addresses)
   pub apart : AllPairs (λ (one other : Addr). one.0 / 4096 ≢ other.0 / 4096) addresses
   pub elsewhere : AreElsewhere taken (map (λ (at : Addr). at.0 / 4096) addresses)
-
--- the count of faults has risen (own)
-abbrev pub HasRisen : ℕ → ℕ → Type 0
-HasRisen before now = min (before + 1) (2 ^ 64 - 1) ≤ now

@@ -4,14 +4,9 @@ ghost use Rattle.leaf_image.specs.Image.{IsSize};
 ghost use Rattle.leaf_sync.specs.Sync.{AreFree, failed_leads_to, leads_to, newest, taken};
 
 use crate::store::{Found, LeafStore};
+use blk_base::format::{COPY_BLOCK, FIRST_BLOCK};
 use blk_base::{Addr, OutOfMemory};
 use std::alloc::Global;
-
-/// The first block behind the superblock ("Superblock" of the on-disk format).
-const FIRST_BLOCK: u32 = 17;
-
-/// The block of the superblock's copy ("Superblock" of the on-disk format: its copies).
-const COPY_BLOCK: u32 = 16384;
 
 /// Whether one of the addresses leads to the block with this number.
 fn leads_to(reach: &[Addr], number: u32) -> bool

@@ -1,91 +1,14 @@
 ghost use Rattle.std.specs.Prelude.{◌≡◌, IfOk};
-ghost use Rattle.disk_model.specs.Disk.{HasCause};
 ghost use Rattle.leaf_sync.specs.Sync.{IsStore};
 
 use super::*;
-use blk_base::{Addr, Block};
-use disk_model::{Disk, DiskFailed};
+use blk_base::Addr;
+use disk_memory::ListDisk;
 use flat_volume::FlatVolume;
 use one_leaf::is_one_leaf;
 use std::alloc::Global;
 use std::test::Fail;
 use volume_format::Super;
-
-/// A disk of 4096 blocks that keeps the calls made on it, and fails at one. It tells nothing.
-#[derive(Drop)]
-struct ListDisk {
-    // The block of each write, 16 for the superblock, and 0 for a flush.
-    calls: Vec<u32>,
-    // The number of the call that fails, from 1.
-    fails: usize,
-    faults: u64,
-}
-
-impl ListDisk {
-    fn new(alloc: Global, fails: usize) -> ListDisk {
-        ListDisk {
-            calls: Vec::new(alloc),
-            fails,
-            faults: 0,
-        }
-    }
-
-    fn call(&mut self, at: u32) -> Result<(), DiskFailed>
-        ensures { HasCause self.old.faults self.new.faults result }
-    {
-        let kept = self.calls.push(at).is_ok();
-        if kept && self.calls.len() != self.fails {
-            return Ok(());
-        }
-        self.faults = self.faults.saturating_add(1);
-        Err(DiskFailed)
-    }
-}
-
-impl Disk for ListDisk {
-    ghost use Rattle.std.specs.Prelude.{[], None};
-
-    ghost count = { λ _. 4096 };
-
-    ghost seen = { λ _. None };
-
-    ghost lost = { λ _. [] };
-
-    ghost told = { λ _. None };
-
-    ghost faults = { λ disk. disk.faults };
-
-    ghost reads_as_told = { λ _. tt };
-
-    ghost lost_as_told = { λ _. tt };
-
-    ghost reads_blocks = { λ _. tt };
-
-    ghost reads_all = { λ _. tt };
-
-    ghost reads_as_left = { λ _. tt };
-
-    fn blocks(&self) -> u32 {
-        4096
-    }
-
-    fn read(&mut self, _at: u32, into: &mut Block) -> Result<(), DiskFailed> {
-        *into = [0; 4096];
-        self.call(1)
-    }
-
-    fn write(&mut self, at: u32, _from: &Block) -> Result<(), DiskFailed> {
-        self.call(at)
-    }
-
-    fn write_super(&mut self, _from: &Block) -> Result<(), DiskFailed> {
-        self.call(16)
-    }
-
-    fn flush(&mut self) -> Result<(), DiskFailed> {
-        self.call(0)
-    }
-}
 
 /// The superblock of a volume of 4096 blocks, whose leaves stand in blocks 17 and 18.
 fn first() -> Super
@@ -117,7 +40,7 @@ fn store(alloc: Global) -> Result<LeafStore, Fail>
 fn sync(
     alloc: Global,
     store: &mut LeafStore,
-    disk: &mut ListDisk,
+    disk: &mut ListDisk<4096>,
     volume: &FlatVolume,
 ) -> Option<Result<(), SyncFault>>
     requires { IsStore store.old 4096 }
@@ -133,41 +56,29 @@ fn sync(
 }
 
 #[test]
-fn blocks_change_places(rt: HostRuntime) -> Result<(), Fail> {
+fn calls_of_two_syncs(rt: HostRuntime) -> Result<(), Fail> {
+    // The superblock of a sync that failed there is written again, and then other blocks.
+    let rows = [
+        (0, Ok(()), [19, 20, 0, 16, 17, 18, 0, 16].as_slice()),
+        (
+            4,
+            Err(SyncFault::Disk),
+            [19, 20, 0, 16, 16, 21, 22, 0, 16].as_slice(),
+        ),
+    ];
     let volume = FlatVolume::empty(rt.alloc(), 1)?;
-    let mut disk = ListDisk::new(rt.alloc(), 0);
-    let mut store = store(rt.alloc())?;
-    assert_eq!(rt;
-        sync(rt.alloc(), &mut store, &mut disk, &volume),
-        Some(Ok(()))
-    );
-    assert_eq!(rt;
-        sync(rt.alloc(), &mut store, &mut disk, &volume),
-        Some(Ok(()))
-    );
-    assert_eq!(rt;
-        disk.calls.as_slice(),
-        [19, 20, 0, 16, 17, 18, 0, 16].as_slice()
-    );
-    Ok(())
-}
-
-#[test]
-fn a_superblock_is_written_again(rt: HostRuntime) -> Result<(), Fail> {
-    let volume = FlatVolume::empty(rt.alloc(), 1)?;
-    let mut disk = ListDisk::new(rt.alloc(), 4);
-    let mut store = store(rt.alloc())?;
-    assert_eq!(rt;
-        sync(rt.alloc(), &mut store, &mut disk, &volume),
-        Some(Err(SyncFault::Disk))
-    );
-    assert_eq!(rt;
-        sync(rt.alloc(), &mut store, &mut disk, &volume),
-        Some(Ok(()))
-    );
-    assert_eq!(rt;
-        disk.calls.as_slice(),
-        [19, 20, 0, 16, 16, 21, 22, 0, 16].as_slice()
-    );
+    for (fails, first, calls) in rows {
+        let mut disk = ListDisk::<4096>::new(rt.alloc(), fails);
+        let mut store = store(rt.alloc())?;
+        assert_eq!(rt;
+            sync(rt.alloc(), &mut store, &mut disk, &volume),
+            Some(first)
+        );
+        assert_eq!(rt;
+            sync(rt.alloc(), &mut store, &mut disk, &volume),
+            Some(Ok(()))
+        );
+        assert_eq!(rt; disk.calls(), calls);
+    }
     Ok(())
 }

@@ -11,17 +11,12 @@ ghost use Rattle.mount_volume.specs.Mount.{HasSuper};
 ghost use Rattle.mount_volume.specs.Reading.{IsWalkedLeaf, IsWalkFault};
 
 use crate::MountFault;
+use blk_base::format::{BLOCK_SIZE, SUPER_BLOCK};
 use blk_base::{Addr, Block, Want};
 use disk_model::{Disk, DiskFailed};
 use leaf_view::LeafView;
 use volume_format::Super;
 use volume_image::LoadFault;
-
-/// The block of the superblock.
-const SUPER_BLOCK: u32 = 16;
-
-/// Bytes of a block.
-const BLOCK_SIZE: u64 = 4096;
 
 /// Reads the block at a byte address.
 pub(crate) fn read_block<D: Disk>(

@@ -16,6 +16,6 @@ mod tests;
 mod volume_blocks;
 
 pub use fault::MountFault;
-pub use make::{LEAST_BLOCKS, MOST_BLOCKS, MkfsFault, mkfs};
+pub use make::{MkfsFault, mkfs};
 pub use mounted::Mounted;
 pub use mounting::mount;

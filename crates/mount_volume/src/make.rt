@@ -9,15 +9,10 @@ ghost use Rattle.mount_volume.specs.Mkfs.{CrashLeaves, IsOldOrBare, made_super};
 
 use crate::volume_blocks::{VolumeBlocks, write_volume};
 use blk_base::OutOfMemory;
+use blk_base::limits::{FEWEST_BLOCKS, MOST_BLOCKS};
 use disk_model::Disk;
 use std::alloc::Global;
 use thiserror::Error;
-
-/// The fewest blocks of a volume.
-pub const LEAST_BLOCKS: u32 = 4096;
-
-/// The most blocks of a volume.
-pub const MOST_BLOCKS: u32 = 65_536;
 
 /// Why no volume was made.
 #[derive(Clone, Copy, Debug, PartialEq, Eq, Error)]
@@ -47,7 +42,7 @@ impl From<OutOfMemory> for MkfsFault {
 fn may_be_made(disk_blocks: u32, blocks: u32, subs: u8) -> bool
     ensures { IsTrue result ↔ MayBeMade disk_blocks blocks subs }
 {
-    LEAST_BLOCKS <= blocks && blocks <= MOST_BLOCKS && blocks <= disk_blocks && subs == 1
+    FEWEST_BLOCKS <= blocks && blocks <= MOST_BLOCKS && blocks <= disk_blocks && subs == 1
 }
 
 /// Makes an empty volume with this uuid, of so many blocks and subvolumes, on the disk: the leaf of the root tree in

@@ -11,19 +11,11 @@ ghost use Rattle.mount_volume.specs.Reading.{Leads};
 
 use crate::MountFault;
 use crate::blocks::read_leaf;
+use blk_base::format::{FS_TREE, ROOT_ITEM, ROOT_TREE};
 use blk_base::{Key, Want};
 use disk_model::Disk;
 use leaf_view::LeafView;
 use volume_format::{RootItem, Super};
-
-/// The owner of the root tree's blocks.
-const ROOT_TREE: u64 = 1;
-
-/// The first subvolume, and the owner of its blocks.
-const FS_TREE: u64 = 5;
-
-/// The type of a root item's key.
-const ROOT_ITEM: u8 = 132;
 
 /// Whether the root tree is a leaf and there is no log ("Superblock": root_level, log_root).
 pub(crate) fn is_plain(superblock: &Super) -> bool

@@ -1,87 +1,13 @@
-ghost use Rattle.std.specs.Prelude.{◌≡◌, ◌≤◌, ◌<◌, None, is_ok, OnOk};
-ghost use Rattle.disk_model.specs.Disk.{Changes, Continues, HasCause, ReadGives, written, super_written};
-
 use crate::{MountFault, mount};
-use blk_base::{Addr, Block, SuperFault, crc32c, name_hash, put_bytes, put_u16, put_u32, put_u64};
-use disk_model::{Disk, DiskFailed};
+use blk_base::{
+    Addr, Block, BlockFault, SuperFault, crc32c, name_hash, put_bytes, put_u16, put_u32, put_u64,
+};
+use disk_memory::ListDisk;
 use item_inode::InodeItem;
 use std::alloc::Global;
 use std::test::Fail;
 use volume_format::{RootItem, Super};
 use volume_image::LoadFault;
-
-/// A disk of 4096 blocks: the superblock and the two leaves of a volume, and zeros. It tells nothing, and each read may
-/// fail.
-#[derive(Drop)]
-struct LeafDisk {
-    superblock: Box<Block>,
-    root: Box<Block>,
-    sub: Box<Block>,
-    fails: bool,
-    faults: u64,
-}
-
-impl LeafDisk {
-    fn fail(&mut self) -> Result<(), DiskFailed>
-        ensures { HasCause self.old.faults self.new.faults result }
-    {
-        self.faults = self.faults.saturating_add(1);
-        Err(DiskFailed)
-    }
-}
-
-impl Disk for LeafDisk {
-    ghost use Rattle.std.specs.Prelude.{[], None};
-
-    ghost count = { λ _. 4096 };
-
-    ghost seen = { λ _. None };
-
-    ghost lost = { λ _. [] };
-
-    ghost told = { λ _. None };
-
-    ghost faults = { λ disk. disk.faults };
-
-    ghost reads_as_told = { λ _. tt };
-
-    ghost lost_as_told = { λ _. tt };
-
-    ghost reads_blocks = { λ _. tt };
-
-    ghost reads_all = { λ _. tt };
-
-    ghost reads_as_left = { λ _. tt };
-
-    fn blocks(&self) -> u32 {
-        4096
-    }
-
-    fn read(&mut self, at: u32, into: &mut Block) -> Result<(), DiskFailed> {
-        if self.fails {
-            return self.fail();
-        }
-        match at {
-            16 => *into = *self.superblock,
-            17 => *into = *self.root,
-            18 => *into = *self.sub,
-            _ => *into = [0; 4096],
-        }
-        Ok(())
-    }
-
-    fn write(&mut self, _at: u32, _from: &Block) -> Result<(), DiskFailed> {
-        self.fail()
-    }
-
-    fn write_super(&mut self, _from: &Block) -> Result<(), DiskFailed> {
-        self.fail()
-    }
-
-    fn flush(&mut self) -> Result<(), DiskFailed> {
-        self.fail()
-    }
-}
 
 /// Puts the header of an item into a block, and its data before those of the items before it; answers where they begin,
 /// counted from the end of the block's header.
@@ -205,31 +131,47 @@ fn put_super(block: &mut Block, log_root: Addr) {
     superblock.encode(block);
 }
 
-/// A disk with a volume of the file `a`.
-fn disk(alloc: Global) -> Result<LeafDisk, Fail> {
-    let mut superblock = Box::new(alloc, [0; 4096])?;
-    put_super(&mut superblock, Addr(0));
-    let mut root = Box::new(alloc, [0; 4096])?;
-    put_root(&mut root)?;
-    let mut sub = Box::new(alloc, [0; 4096])?;
-    put_sub(&mut sub)?;
-    Ok(LeafDisk {
-        superblock,
-        root,
-        sub,
-        fails: false,
-        faults: 0,
-    })
+/// What is wrong with a volume or its disk.
+#[derive(Clone, Copy)]
+enum Wrong {
+    Nothing,
+    Log,
+    Root,
+    Sub,
+    Super,
+    Disk,
 }
 
-/// The fault of a mount.
-fn fault(alloc: Global, disk: &mut LeafDisk) -> Option<MountFault> {
-    mount(alloc, disk).err()
+/// A disk with a volume of the file `a`, and this wrong with it.
+fn disk(alloc: Global, wrong: Wrong) -> Result<ListDisk<4096>, Fail> {
+    let fails = if matches!(wrong, Wrong::Disk) { 1 } else { 0 };
+    let mut disk = ListDisk::<4096>::new(alloc, fails);
+    let mut block = [0; 4096];
+    match wrong {
+        Wrong::Super => {}
+        Wrong::Log => put_super(&mut block, Addr(77824)),
+        _ => put_super(&mut block, Addr(0)),
+    }
+    disk.put(16, &block)?;
+    block = [0; 4096];
+    put_root(&mut block)?;
+    if matches!(wrong, Wrong::Root) {
+        put_u64(&mut block, 101, 6);
+        seal(&mut block, 69632, 1, 1);
+    }
+    disk.put(17, &block)?;
+    block = [0; 4096];
+    put_sub(&mut block)?;
+    if matches!(wrong, Wrong::Sub) {
+        block[4000] = 9;
+    }
+    disk.put(18, &block)?;
+    Ok(disk)
 }
 
 #[test]
 fn mounts_a_file_of_one_block(rt: HostRuntime) -> Result<(), Fail> {
-    let mut disk = disk(rt.alloc())?;
+    let mut disk = disk(rt.alloc(), Wrong::Nothing)?;
     match mount(rt.alloc(), &mut disk) {
         Ok(mounted) => {
             assert_eq!(rt; mounted.reach.len(), 3);
@@ -242,49 +184,18 @@ fn mounts_a_file_of_one_block(rt: HostRuntime) -> Result<(), Fail> {
 }
 
 #[test]
-fn refuses_a_log(rt: HostRuntime) -> Result<(), Fail> {
-    let mut disk = disk(rt.alloc())?;
-    put_super(&mut disk.superblock, Addr(77824));
-    assert_eq!(rt; fault(rt.alloc(), &mut disk), Some(MountFault::OneLeaf));
-    Ok(())
-}
-
-#[test]
-fn refuses_another_root_item(rt: HostRuntime) -> Result<(), Fail> {
-    let mut disk = disk(rt.alloc())?;
-    put_u64(&mut *disk.root, 101, 6);
-    seal(&mut disk.root, 69632, 1, 1);
-    assert_eq!(rt; fault(rt.alloc(), &mut disk), Some(MountFault::OneLeaf));
-    Ok(())
-}
-
-#[test]
-fn says_which_block_is_broken(rt: HostRuntime) -> Result<(), Fail> {
-    let mut disk = disk(rt.alloc())?;
-    disk.sub[4000] = 9;
-    let broken = LoadFault::Block(Addr(73728), blk_base::BlockFault::Checksum);
-    assert_eq!(rt;
-        fault(rt.alloc(), &mut disk),
-        Some(MountFault::Load(broken))
-    );
-    Ok(())
-}
-
-#[test]
-fn says_why_there_is_no_superblock(rt: HostRuntime) -> Result<(), Fail> {
-    let mut disk = disk(rt.alloc())?;
-    *disk.superblock = [0; 4096];
-    assert_eq!(rt;
-        fault(rt.alloc(), &mut disk),
-        Some(MountFault::Super(SuperFault::Magic))
-    );
-    Ok(())
-}
-
-#[test]
-fn says_that_the_disk_failed(rt: HostRuntime) -> Result<(), Fail> {
-    let mut disk = disk(rt.alloc())?;
-    disk.fails = true;
-    assert_eq!(rt; fault(rt.alloc(), &mut disk), Some(MountFault::Disk));
+fn names_what_is_wrong(rt: HostRuntime) -> Result<(), Fail> {
+    let broken = LoadFault::Block(Addr(73728), BlockFault::Checksum);
+    let rows = [
+        (Wrong::Log, MountFault::OneLeaf),
+        (Wrong::Root, MountFault::OneLeaf),
+        (Wrong::Sub, MountFault::Load(broken)),
+        (Wrong::Super, MountFault::Super(SuperFault::Magic)),
+        (Wrong::Disk, MountFault::Disk),
+    ];
+    for (wrong, fault) in rows {
+        let mut disk = disk(rt.alloc(), wrong)?;
+        assert_eq!(rt; mount(rt.alloc(), &mut disk).err(), Some(fault));
+    }
     Ok(())
 }

@@ -8,6 +8,7 @@ ghost use Rattle.volume_image.specs.Bare.{bare_inode, bare_ref, bare_root, bare_
 ghost use Rattle.volume_image.specs.Stands.{root_want, sub_want};
 ghost use Rattle.mount_volume.specs.Mkfs.{AreVolume, CrashLeaves, IsOldOrWritten, made_super};
 
+use blk_base::format::{DIR_MODE, FS_TREE, ROOT_TREE};
 use blk_base::{Addr, Block, Key, OutOfMemory, Want, put_bytes, put_u16, put_u32, put_u64};
 use disk_model::{Disk, DiskFailed};
 use leaf_edit::LeafMut;
@@ -29,12 +30,6 @@ const SUB_AT: Addr = Addr(73_728);
 /// The transaction that makes the volume.
 const GENERATION: u64 = 1;
 
-/// The owner of the root tree's blocks.
-const ROOT_TREE: u64 = 1;
-
-/// The first subvolume, and the owner of its blocks.
-const FS_TREE: u64 = 5;
-
 /// The key of the subvolume's root item.
 const ROOT_KEY: Key = Key {
     objectid: 5,
@@ -55,9 +50,6 @@ const REF_KEY: Key = Key {
     kind: 12,
     offset: 256,
 };
-
-/// The mode of a directory, octal 40755.
-const DIR_MODE: u32 = 0o40755;
 
 /// The three blocks of an empty volume of one subvolume.
 #[derive(Drop)]

@@ -12,11 +12,11 @@ use Rattle.mount_volume.specs.Answer.{IsMountedAs, IsToldFault}
 use Rattle.mount_volume.proofs.Law.{no_refusal}
 use Rattle.script_runner.specs.declared.status.Status.{Status}
 use Rattle.script_runner.specs.declared.status.Status.TheVariants.{Done, Usage, BadScript, NoVolume, DiskFault, ReadFault, WriteFault, Memory, MkfsRange}
-use Rattle.script_runner.specs.Commands.{HasOneLeaf, IsDoneText, IsList, IsListAnswer, IsListText, IsListing, IsTextOf, IsTold, made_line, status_of}
+use Rattle.script_runner.specs.Commands.{HasOneLeaf, IsDoneText, IsList, IsListAnswer, IsListText, IsListing, IsTextOf, IsPut, made_line, status_of}
 use Rattle.io_edge.proofs.Sinks.{Takes-front}
 
 -- the whole text was taken
-pub told_whole : (status : Status) (text : List ℕ) (before after : Option (List ℕ)) (faults faults_now : ℕ) → Takes before text after → IsTold status text before after faults faults_now
+pub told_whole : (status : Status) (text : List ℕ) (before after : Option (List ℕ)) (faults faults_now : ℕ) → Takes before text after → IsPut status text before after faults faults_now
 told_whole status text before after faults faults_now takes = record { done = λ _. takes; front = Takes-front before after text takes; whole = λ _. takes }
 
 -- the volume of a mount is one that the image stands for

@@ -18,7 +18,7 @@ use Rattle.script_text.specs.Kinds as kinds
 use Rattle.script_text.specs.Script.{script_of}
 use Rattle.io_edge.specs.declared.reading.ReadFault.{ReadFault}
 use Rattle.io_edge.specs.declared.reading.ReadFault.TheVariants as source_faults
-use Rattle.io_edge.specs.Reading.{HasGiven, HasGivenSome, IsTooLong}
+use Rattle.io_edge.specs.Reading.{HasGivenSome, IsCutShort}
 use Rattle.leaf_run.specs.declared.run.LeafRun.{LeafRun}
 use Rattle.leaf_run.specs.Begun.{FindsWholeVolume}
 use Rattle.leaf_run.specs.Run.{AreCalls, Kept, RunLeaves, State, state_after, state_of}
@@ -29,8 +29,8 @@ use Rattle.script_runner.specs.declared.status.Status.TheVariants.{Done, BadScri
 use Rattle.script_runner.specs.declared.status.Status.TheVariants as status_kinds
 use Rattle.mount_volume.specs.Mount.{IsMountFault}
 use Rattle.mount_volume.proofs.Law.{no_refusal}
-use Rattle.script_runner.specs.Commands.{HasOneLeaf, IsOfScript, IsFaultOf, IsFaultless, IsTold, answer_line, status_of}
-use Rattle.script_runner.specs.Run.{FromSource, IsDiskSame, IsLinesAnswer, AllRun, SinkFailed, MemoryLacked, NotMounted, DiskFailed, NoMemory, IsRunAnswer, Parsed, NotParsed, NotRead, LacksMemory, IsRead, IsRunOn, Outside, outside, status_of_script, status_of_source}
+use Rattle.script_runner.specs.Commands.{HasOneLeaf, IsOfScript, IsFaultOf, IsFaultless, IsPut, answer_line, status_of}
+use Rattle.script_runner.specs.Run.{FromSource, IsDiskSame, HasLostNone, IsLinesAnswer, AllRun, SinkFailed, MemoryLacked, NotMounted, DiskFailed, NoMemory, IsRunAnswer, Parsed, NotParsed, NotRead, LacksMemory, IsRead, IsRunOn, Outside, outside, status_of_script, status_of_source}
 use Rattle.script_runner.proofs.AnswerLemmas.{told_whole}
 use Rattle.io_edge.proofs.Sinks.{Takes-joins, TakesFront-behind}
 
@@ -42,11 +42,11 @@ abbrev begun_at : RunVolume → Option Told → ℕ → State
 begun_at volume told faults = record { volume = volume; told = told; faults = faults }
 
 -- what a crash may leave as the run begins
-held_first : (m : Mounted) (run : LeafRun) (seen : Option Image) (told : Option Told) → IfTold seen (λ image. IsMountedAs image m × IsFaultless image) → IfTold told (λ told. seen ≡ Some (image_now told))
-    → ((told : Told) → IsMountedAs (image_now told) m → FindsWholeVolume told → Holds told run.store (volume_of m.volume) None) → IfTold told FindsWholeVolume → IfTold told (λ told. Holds told run.store (volume_of m.volume) None)
-held_first m run seen None stands same holds finds = tt
-held_first m run seen (Some told) stands same holds finds =
-    holds told (subst (λ (s : Option Image). IfTold s (λ image. IsMountedAs image m × IsFaultless image)) same stands).0 finds
+held_first : (m : Mounted) (run : LeafRun) (seen : Option Image) (told : Option Told) → IfTold seen (λ image. IsMountedAs image m × IsFaultless image) → IfTold told (λ told. HasLostNone told → seen ≡ Some (image_now told))
+    → ((told : Told) → IsMountedAs (image_now told) m → FindsWholeVolume told → Holds told run.store (volume_of m.volume) None) → IfTold told HasLostNone → IfTold told FindsWholeVolume → IfTold told (λ told. Holds told run.store (volume_of m.volume) None)
+held_first m run seen None stands same holds none finds = tt
+held_first m run seen (Some told) stands same holds none finds =
+    holds told (subst (λ (s : Option Image). IfTold s (λ image. IsMountedAs image m × IsFaultless image)) (same none) stands).0 finds
 
 stands_told : (m : Mounted) (seen : Option Image) → IfTold seen (λ image. IsMountedAs image m × IsFaultless image) → IfTold seen (λ image. Stands image (volume_of m.volume) × IsFaultless image)
 stands_told m None stands = tt
@@ -58,7 +58,7 @@ pub record HasBegun (m : Mounted) (run : LeafRun) (seen : Option Image) (told : 
   pub begun : m.volume ≡ mounted (volume_of m.volume)
   pub small : IsOneLeaf (volume_of m.volume)
   pub stands : IfTold seen (λ image. IsMountedAs image m × IsFaultless image)
-  pub same : IfTold told (λ told. seen ≡ Some (image_now told))
+  pub same : IfTold told (λ told. HasLostNone told → seen ≡ Some (image_now told))
   pub holds : (told : Told) → IsMountedAs (image_now told) m → FindsWholeVolume told → Holds told run.store (volume_of m.volume) None
 
 module _ (lines : List Line) (m : Mounted) (run next : LeafRun) (seen seen_now : Option Image) (told told_now : Option Told) (taken taken_now : Option (List ℕ)) (first faults faults_now sink sink_now : ℕ)
@@ -83,27 +83,27 @@ module _ (lines : List Line) (m : Mounted) (run next : LeafRun) (seen seen_now :
       are = subst (λ (v : RunVolume). AreCalls (begun_at v told faults) ran.front ran.calls) same_volume ran.are;
       ended = subst (λ (v : RunVolume). state_after (begun_at v told faults) ran.calls ≡ state_of next told_now faults_now) same_volume ran.ended;
     };
-    crash = λ finds. subst (λ (v : RunVolume). RunLeaves (record { last = volume_of m.volume; failed = None }) (begun_at v told faults) ran.front ran.calls) same_volume
-        (crash (record { last = volume_of m.volume; failed = None }) (held_first m run seen told begun.stands begun.same begun.holds finds));
+    crash = λ none finds. subst (λ (v : RunVolume). RunLeaves (record { last = volume_of m.volume; failed = None }) (begun_at v told faults) ran.front ran.calls) same_volume
+        (crash (record { last = volume_of m.volume; failed = None }) (held_first m run seen told begun.stands begun.same begun.holds none finds));
   }
 
   pub all_run : IsRunText ran (Ok tt) taken taken_now
-      → (text : List ℕ) × IsTold Done text taken taken_now sink sink_now × IsLinesAnswer lines (outside seen told taken first sink) (outside seen_now told_now taken_now faults_now sink_now) Done text
+      → (text : List ℕ) × IsPut Done text taken taken_now sink sink_now × IsLinesAnswer lines (outside seen told taken first sink) (outside seen_now told_now taken_now faults_now sink_now) Done text
   all_run text = (run_text lines ran.calls, told_whole Done (run_text lines ran.calls) taken taken_now sink sink_now text.1, AllRun run_on text.0)
 
   pub sink_failed : IsRunText ran (Err run_fault.Sink) taken taken_now → HasRisen sink sink_now
-      → (text : List ℕ) × IsTold WriteFault text taken taken_now sink sink_now × IsLinesAnswer lines (outside seen told taken first sink) (outside seen_now told_now taken_now faults_now sink_now) WriteFault text
+      → (text : List ℕ) × IsPut WriteFault text taken taken_now sink sink_now × IsLinesAnswer lines (outside seen told taken first sink) (outside seen_now told_now taken_now faults_now sink_now) WriteFault text
   sink_failed text risen = elim text [
     | inl front ↦ (calls_text ran.front ran.calls, told_front (calls_text ran.front ran.calls) front.0 risen, SinkFailed (calls_text ran.front ran.calls) run_on (inl (refl, front.1)) risen)
     | inr whole ↦ (run_text lines ran.calls, told_front (run_text lines ran.calls) whole.1 risen, SinkFailed (run_text lines ran.calls) run_on (inr (whole.0, refl, whole.2)) risen)
   ]
     where
-      told_front : (text : List ℕ) → TakesFront taken text taken_now → HasRisen sink sink_now → IsTold WriteFault text taken taken_now sink sink_now
+      told_front : (text : List ℕ) → TakesFront taken text taken_now → HasRisen sink sink_now → IsPut WriteFault text taken taken_now sink sink_now
       told_front text front risen = record { done = λ is. absurd cc; front = front; whole = λ no. absurd (no risen) }
 
   pub memory_lacked : (taken_mid : Option (List ℕ)) (sink_mid : ℕ) → IsRunText ran (Err run_fault.OutOfMemory) taken taken_mid
       → sink ≤ sink_mid → TakesFront taken_mid (answer_line Memory) taken_now → ((HasRisen sink_mid sink_now → ⊥) → Takes taken_mid (answer_line Memory) taken_now)
-      → (text : List ℕ) × IsTold Memory text taken taken_now sink sink_now × IsLinesAnswer lines (outside seen told taken first sink) (outside seen_now told_now taken_now faults_now sink_now) Memory text
+      → (text : List ℕ) × IsPut Memory text taken taken_now sink sink_now × IsLinesAnswer lines (outside seen told taken first sink) (outside seen_now told_now taken_now faults_now sink_now) Memory text
   memory_lacked taken_mid sink_mid text counted_mid front whole =
       let said = calls_text ran.front ran.calls in (
         said ++ answer_line Memory,
@@ -117,16 +117,16 @@ module _ (lines : List Line) (m : Mounted) (run next : LeafRun) (seen seen_now :
 
 -- the line of an answer that has one
 pub told_line : (status : Status) (taken taken_now : Option (List ℕ)) (sink sink_now : ℕ) → (status ≡ Done → ⊥) → TakesFront taken (answer_line status) taken_now → ((HasRisen sink sink_now → ⊥) → Takes taken (answer_line status) taken_now)
-    → IsTold status (answer_line status) taken taken_now sink sink_now
+    → IsPut status (answer_line status) taken taken_now sink sink_now
 told_line status taken taken_now sink sink_now other front whole = record { done = λ is. absurd (other is); front = front; whole = whole }
 
 -- what the lines of a script come to, with a text that was told
-abbrev pub IsToldLines : List Line → Outside → Outside → Status → Type 0
-IsToldLines lines before after status = (text : List ℕ) × IsTold status text before.taken after.taken before.sink_faults after.sink_faults × IsLinesAnswer lines before after status text
+abbrev pub IsPutLines : List Line → Outside → Outside → Status → Type 0
+IsPutLines lines before after status = (text : List ℕ) × IsPut status text before.taken after.taken before.sink_faults after.sink_faults × IsLinesAnswer lines before after status text
 
 -- what `run` comes to, with a text that was told
-abbrev pub IsToldRun : FromSource → FromSource → Outside → Outside → Status → Type 0
-IsToldRun given left before after status = (text : List ℕ) × IsTold status text before.taken after.taken before.sink_faults after.sink_faults × IsRunAnswer given left before after status text
+abbrev pub IsPutRun : FromSource → FromSource → Outside → Outside → Status → Type 0
+IsPutRun given left before after status = (text : List ℕ) × IsPut status text before.taken after.taken before.sink_faults after.sink_faults × IsRunAnswer given left before after status text
 
 -- a volume that can't be mounted
 pub not_mounted : (lines : List Line) (before after : Outside) (fault : MountFault) → IsToldFault before.seen fault → (fault ≡ Disk → HasRisen before.disk_faults after.disk_faults) → IsDiskSame before after
@@ -146,34 +146,34 @@ not_done OutOfMemory is = cc
 
 -- and its line was told
 pub told_unmounted : (lines : List Line) (before after : Outside) (fault : MountFault) (status : Status) → status ≡ status_of fault → IsToldFault before.seen fault → (fault ≡ Disk → HasRisen before.disk_faults after.disk_faults) → IsDiskSame before after
-    → TakesFront before.taken (answer_line (status_of fault)) after.taken → ((HasRisen before.sink_faults after.sink_faults → ⊥) → Takes before.taken (answer_line (status_of fault)) after.taken) → IsToldLines lines before after status
+    → TakesFront before.taken (answer_line (status_of fault)) after.taken → ((HasRisen before.sink_faults after.sink_faults → ⊥) → Takes before.taken (answer_line (status_of fault)) after.taken) → IsPutLines lines before after status
 told_unmounted lines before after fault status is told cause same front whole =
-    subst (IsToldLines lines before after) (sym is)
+    subst (IsPutLines lines before after) (sym is)
     (answer_line (status_of fault), told_line (status_of fault) before.taken after.taken before.sink_faults after.sink_faults (not_done fault) front whole, not_mounted lines before after fault told cause same)
 
 -- a script that was run
-pub told_parsed : (given left : FromSource) (before after : Outside) (status : Status) (bytes : List ℕ) (lines : List Line) → IsRead given left bytes → script_of bytes ≡ Ok lines → IsToldLines lines before after status → IsToldRun given left before after status
+pub told_parsed : (given left : FromSource) (before after : Outside) (status : Status) (bytes : List ℕ) (lines : List Line) → IsRead given left bytes → script_of bytes ≡ Ok lines → IsPutLines lines before after status → IsPutRun given left before after status
 told_parsed given left before after status bytes lines read script told = (told.0, told.1, Parsed status told.0 bytes lines read script told.2)
 
 -- a script that has a fault, or for which memory lacked
 pub told_unparsed : (given left : FromSource) (before after : Outside) (status : Status) (bytes : List ℕ) (fault : ScriptFault) → status ≡ status_of_script fault → IsRead given left bytes → kinds.IsFaultOf fault (script_of bytes) → IsDiskSame before after
-    → TakesFront before.taken (answer_line (status_of_script fault)) after.taken → ((HasRisen before.sink_faults after.sink_faults → ⊥) → Takes before.taken (answer_line (status_of_script fault)) after.taken) → IsToldRun given left before after status
+    → TakesFront before.taken (answer_line (status_of_script fault)) after.taken → ((HasRisen before.sink_faults after.sink_faults → ⊥) → Takes before.taken (answer_line (status_of_script fault)) after.taken) → IsPutRun given left before after status
 told_unparsed given left before after status bytes (script_faults.Bad line kind) is read bad same front whole =
-    subst (IsToldRun given left before after) (sym is)
+    subst (IsPutRun given left before after) (sym is)
     (answer_line (BadScript line kind), told_line (BadScript line kind) before.taken after.taken before.sink_faults after.sink_faults (λ no. cc) front whole, NotParsed bytes line kind read bad same)
 told_unparsed given left before after status bytes script_faults.OutOfMemory is read bad same front whole =
-    subst (IsToldRun given left before after) (sym is)
+    subst (IsPutRun given left before after) (sym is)
     (answer_line Memory, told_line Memory before.taken after.taken before.sink_faults after.sink_faults (λ no. cc) front whole, LacksMemory (bytes, read.given) same)
 
 -- a source that wasn't read
 pub told_unread : (given left : FromSource) (before after : Outside) (status : Status) (fault : ReadFault) → status ≡ status_of_source fault
-    → (fault ≡ source_faults.OutOfMemory → HasGivenSome given.left left.left) → ((taken : ℕ) → fault ≡ source_faults.Failed taken → HasGiven given.left taken left.left) → ((taken : ℕ) → fault ≡ source_faults.Failed taken → HasRisen given.faults left.faults ⊎ IsTooLong taken) → IsDiskSame before after
-    → TakesFront before.taken (answer_line (status_of_source fault)) after.taken → ((HasRisen before.sink_faults after.sink_faults → ⊥) → Takes before.taken (answer_line (status_of_source fault)) after.taken) → IsToldRun given left before after status
-told_unread given left before after status (source_faults.Failed taken) is some gave cause same front whole =
-    subst (IsToldRun given left before after) (sym is)
-    (answer_line (status_kinds.ReadFault taken), told_line (status_kinds.ReadFault taken) before.taken after.taken before.sink_faults after.sink_faults (λ no. cc) front whole, NotRead taken (gave taken refl) (cause taken refl) same)
-told_unread given left before after status source_faults.OutOfMemory is some gave cause same front whole =
-    subst (IsToldRun given left before after) (sym is)
+    → (fault ≡ source_faults.OutOfMemory → HasGivenSome given.left left.left) → ((taken : ℕ) → fault ≡ source_faults.Failed taken → IsCutShort given.left left.left given.faults left.faults taken) → IsDiskSame before after
+    → TakesFront before.taken (answer_line (status_of_source fault)) after.taken → ((HasRisen before.sink_faults after.sink_faults → ⊥) → Takes before.taken (answer_line (status_of_source fault)) after.taken) → IsPutRun given left before after status
+told_unread given left before after status (source_faults.Failed taken) is some cut same front whole =
+    subst (IsPutRun given left before after) (sym is)
+    (answer_line (status_kinds.ReadFault taken), told_line (status_kinds.ReadFault taken) before.taken after.taken before.sink_faults after.sink_faults (λ no. cc) front whole, NotRead taken (cut taken refl) same)
+told_unread given left before after status source_faults.OutOfMemory is some cut same front whole =
+    subst (IsPutRun given left before after) (sym is)
     (answer_line Memory, told_line Memory before.taken after.taken before.sink_faults after.sink_faults (λ no. cc) front whole, LacksMemory (some refl) same)
 
 same_fault : (one two : MountFault) → status_kinds.NoVolume one ≡ status_kinds.NoVolume two → one ≡ two
@@ -191,7 +191,7 @@ lines_no_volume lines before after _ _ fault (NoMemory same) is = absurd cc
 pub run_no_volume : (given left : FromSource) (before after : Outside) (status : Status) (text : List ℕ) (fault : MountFault) → IsRunAnswer given left before after status text → status ≡ status_kinds.NoVolume fault → IsFaultOf before.seen fault
 run_no_volume given left before after _ _ fault (Parsed status text bytes lines read script answer) is = lines_no_volume lines before after status text fault answer is
 run_no_volume given left before after _ _ fault (NotParsed bytes line kind read bad same) is = absurd cc
-run_no_volume given left before after _ _ fault (NotRead taken gave cause same) is = absurd cc
+run_no_volume given left before after _ _ fault (NotRead taken cut same) is = absurd cc
 run_no_volume given left before after _ _ fault (LacksMemory some same) is = absurd cc
 
 -- a run of lines ends well where nothing fails and the volume stands
@@ -209,7 +209,7 @@ run_complete_at : (given left : FromSource) (before after : Outside) (status : S
     → (HasRisen before.disk_faults after.disk_faults → ⊥) → (HasRisen before.sink_faults after.sink_faults → ⊥) → (status ≡ Done) ⊎ (status ≡ Memory) ⊎ IsOfScript status
 run_complete_at given left before after _ _ image (Parsed status text bytes lines read script answer) seen it disk sink = elim (lines_complete lines before after status text image answer seen it disk sink) [ inl done ↦ inl done | inr memory ↦ inr (inl memory) ]
 run_complete_at given left before after _ _ image (NotParsed bytes line kind read bad same) seen it disk sink = inr (inr tt)
-run_complete_at given left before after _ _ image (NotRead taken gave cause same) seen it disk sink = inr (inr tt)
+run_complete_at given left before after _ _ image (NotRead taken cut same) seen it disk sink = inr (inr tt)
 run_complete_at given left before after _ _ image (LacksMemory some same) seen it disk sink = inr (inl refl)
 
 pub run_complete : (given left : FromSource) (seen : Option Image) (told : Option Told) (taken : Option (List ℕ)) (disk_faults sink_faults : ℕ) (after : Outside) (status : Status) (text : List ℕ) → IsRunAnswer given left (outside seen told taken disk_faults sink_faults) after status text

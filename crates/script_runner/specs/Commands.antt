@@ -193,7 +193,7 @@ IsTextOf words seen WriteFault text = IsDoneText words seen text
 IsTextOf words seen other text = text ≡ answer_line other
 
 -- The sink took a front of the text: all of it after Done, and where its count of faults didn't rise (own).
-pub record IsTold (status : Status) (text : List ℕ) (before after : Option (List ℕ)) (faults faults_now : ℕ) : Type 0 where
+pub record IsPut (status : Status) (text : List ℕ) (before after : Option (List ℕ)) (faults faults_now : ℕ) : Type 0 where
   pub done : status ≡ Done → Takes before text after
   pub front : TakesFront before text after
   pub whole : (HasRisen faults faults_now → ⊥) → Takes before text after

@@ -1,6 +1,6 @@
 -- The command `run`: what it answers and why, what it writes, and what a crash may leave meanwhile.
 use Rattle.std.specs.Prelude.{◌≡◌, ◌≤◌, ◌⊎◌, ◌++◌, [], ℕ, List, length, Option, None, Ok, Err}
-use Rattle.disk_model.specs.Disk.{Told, IfTold}
+use Rattle.disk_model.specs.Disk.{Told, IfTold, held_now}
 use Rattle.io_edge.specs.Edge.{Gives}
 use Rattle.flat_model.specs.Volume.{Volume, RunVolume, mounted}
 use Rattle.volume_image.specs.Tree.{Image}
@@ -13,7 +13,7 @@ use Rattle.script_text.specs.declared.fault.ScriptFault.{ScriptFault}
 use Rattle.script_text.specs.declared.fault.ScriptFault.TheVariants as script_faults
 use Rattle.flat_model.specs.declared.request.Line.{Line}
 use Rattle.script_text.specs.Script.{script_of}
-use Rattle.io_edge.specs.Reading.{HasEnded, HasGiven, HasGivenSome, IsTooLong}
+use Rattle.io_edge.specs.Reading.{HasEnded, HasGivenSome, IsCutShort}
 use Rattle.io_edge.specs.declared.reading.ReadFault as source_fault
 use Rattle.io_edge.specs.declared.reading.ReadFault.TheVariants as source_faults
 use Rattle.leaf_run.specs.Begun.{FindsWholeVolume}
@@ -29,7 +29,7 @@ pub record FromSource : Type 0 where
   pub left : Option (List ℕ)
   pub faults : ℕ
 
--- What a read of the disk gives, the disk's record, and what the sink has taken, where they tell it; and how often each has
+-- What a read of any block of the disk gives, the disk's record, and what the sink has taken, where they tell it; and how often each has
 -- failed (own).
 pub record Outside : Type 0 where
   pub seen : Option Image
@@ -54,8 +54,12 @@ pub record IsDiskSame (before after : Outside) : Type 0 where
   pub seen : after.seen ≡ before.seen
   pub told : after.told ≡ before.told
 
+-- no block is lost (own)
+abbrev pub HasLostNone : Told → Type 0
+HasLostNone told = (held_now told).lost ≡ []
+
 -- Calls of a script on the volume that was mounted: the one for which the image stands, and no fault is the image's. Where
--- each image that a crash may leave at first has the superblock that is read and all that it reaches, a crash at every moment
+-- no block is lost at first and each image that a crash may leave at first has the superblock that is read and all that it reaches, a crash at every moment
 -- leaves what `RunLeaves` says: the mounted volume or that of the last sync that answered ok, that of the sync under way, or
 -- one whose superblock's write failed (own).
 pub record IsRunOn (lines : List Line) (before after : Outside) : Type 0 where
@@ -66,7 +70,7 @@ pub record IsRunOn (lines : List Line) (before after : Outside) : Type 0 where
   pub counted : before.disk_faults ≤ faults
   pub last : RunVolume
   pub ran : HasRun lines (record { volume = mounted volume; told = before.told; faults = faults }) (record { volume = last; told = after.told; faults = after.disk_faults })
-  pub crash : IfTold before.told FindsWholeVolume
+  pub crash : IfTold before.told HasLostNone → IfTold before.told FindsWholeVolume
       → RunLeaves (record { last = volume; failed = None }) (record { volume = mounted volume; told = before.told; faults = faults }) ran.front ran.calls
 
 -- The text that was begun when the sink failed, and what the sink took of it: all lines before the last call's and a front of that
@@ -93,8 +97,7 @@ pub data IsRunAnswer (given left : FromSource) (before after : Outside) : Status
       → IsLinesAnswer lines before after status text → IsRunAnswer given left before after status text
   NotParsed : (bytes : List ℕ) (line : ℕ) (kind : ScriptKind) → IsRead given left bytes → script_of bytes ≡ Err (line, kind)
       → IsDiskSame before after → IsRunAnswer given left before after (BadScript line kind) (answer_line (BadScript line kind))
-  NotRead : (taken : ℕ) → HasGiven given.left taken left.left → HasRisen given.faults left.faults ⊎ IsTooLong taken
-      → IsDiskSame before after → IsRunAnswer given left before after (ReadFault taken) (answer_line (ReadFault taken))
+  NotRead : (taken : ℕ) → IsCutShort given.left left.left given.faults left.faults taken → IsDiskSame before after → IsRunAnswer given left before after (ReadFault taken) (answer_line (ReadFault taken))
   LacksMemory : HasGivenSome given.left left.left → IsDiskSame before after → IsRunAnswer given left before after Memory (answer_line Memory)
 
 -- the answer to a source that wasn't read to its end (own)

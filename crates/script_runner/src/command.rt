@@ -1,13 +1,13 @@
 ghost use Rattle.std.specs.Prelude.{◌≡◌, ◌≤◌, ◌⊎◌, ◌↔◌, ◌∷◌, [], ℕ, List, ◌≢◌, OnOk, OnErr, IsTrue};
 ghost use Rattle.flat_model.specs.Volume.{bare_volume};
-ghost use Rattle.disk_model.specs.Disk.{IfTold};
+ghost use Rattle.disk_model.specs.Disk.{IfTold, known};
 ghost use Rattle.io_edge.specs.Edge.{Takes, TakesFront, HasCause};
 ghost use Rattle.volume_image.specs.Stands.{Stands};
 ghost use Rattle.mount_volume.specs.declared.fault.MountFault.{MountFault};
 ghost use Rattle.mount_volume.specs.Answer.{HasRisen};
 ghost use Rattle.script_text.specs.declared.fault.ScriptKind.{ScriptKind};
 ghost use Rattle.script_runner.specs.Run.{IsRunAnswer, outside};
-ghost use Rattle.script_runner.specs.Commands.{IsOfMkfs, AreInRange, HasOneLeaf, IsAnyMkfs, IsCommand, IsDone, IsFaultOf, IsFaultless, IsInRange, IsList, IsOfScript, IsOutOfRange, IsRun, IsTextOf, IsTold, bytes_of, made_line};
+ghost use Rattle.script_runner.specs.Commands.{IsOfMkfs, AreInRange, HasOneLeaf, IsAnyMkfs, IsCommand, IsDone, IsFaultOf, IsFaultless, IsInRange, IsList, IsOfScript, IsOutOfRange, IsRun, IsTextOf, IsPut, bytes_of, made_line};
 ghost use Rattle.mount_volume.specs.Mkfs.{CrashLeaves, IsOldOrBare};
 ghost use Rattle.script_runner.specs.Mkfs.{HasSuperAsked, HasSuperOf};
 
@@ -43,28 +43,28 @@ pub fn drive<S: Source, K: Sink, D: Disk>(
     ensures range { (result ≡ Status.MkfsRange) ↔ IsOutOfRange (bytes_of words.now) (D.count disk.old) }
     ensures bad_script { (line : ℕ) (kind : ScriptKind) → (result ≡ Status.BadScript line kind) → IsRun (bytes_of words.now) × (disk.new ≡ disk.old) }
     ensures read_fault { (taken : ℕ) → (result ≡ Status.ReadFault taken) → IsRun (bytes_of words.now) × (disk.new ≡ disk.old) }
-    ensures no_volume { (fault : MountFault) → (result ≡ Status.NoVolume fault) → (IsList (bytes_of words.now) ⊎ IsRun (bytes_of words.now)) × IsFaultOf (D.seen disk.old) fault }
+    ensures no_volume { (fault : MountFault) → (result ≡ Status.NoVolume fault) → (IsList (bytes_of words.now) ⊎ IsRun (bytes_of words.now)) × IsFaultOf (known (D.seen disk.old) (D.lost disk.old)) fault }
     ensures disk_fault { (result ≡ Status.DiskFault) → HasRisen (D.faults disk.old) (D.faults disk.new) }
     ensures write_fault { (result ≡ Status.WriteFault) → HasRisen (K.faults to.old) (K.faults to.new) }
     ensures complete { IsInRange (bytes_of words.now) (D.count disk.old) → (HasRisen (D.faults disk.old) (D.faults disk.new) → ⊥) → (HasRisen (K.faults to.old) (K.faults to.new) → ⊥)
         → (result ≡ Status.Done) ⊎ (result ≡ Status.Memory) }
-    ensures list_complete { IsList (bytes_of words.now) → IfTold (D.seen disk.old) (λ image. HasOneLeaf image
+    ensures list_complete { IsList (bytes_of words.now) → IfTold (known (D.seen disk.old) (D.lost disk.old)) (λ image. HasOneLeaf image
         → (HasRisen (D.faults disk.old) (D.faults disk.new) → ⊥) → (HasRisen (K.faults to.old) (K.faults to.new) → ⊥) → (result ≡ Status.Done) ⊎ (result ≡ Status.Memory)) }
-    ensures run_complete { IsRun (bytes_of words.now) → IfTold (D.seen disk.old) (λ image. HasOneLeaf image
+    ensures run_complete { IsRun (bytes_of words.now) → IfTold (known (D.seen disk.old) (D.lost disk.old)) (λ image. HasOneLeaf image
         → (HasRisen (D.faults disk.old) (D.faults disk.new) → ⊥) → (HasRisen (K.faults to.old) (K.faults to.new) → ⊥) → (result ≡ Status.Done) ⊎ (result ≡ Status.Memory) ⊎ IsOfScript result) }
 
     // What is left of the source, what the sink was told, and what stays.
     ensures source { (IsRun (bytes_of words.now) → ⊥) → from.new ≡ from.old }
     ensures untouched { (result ≡ Status.Usage) ⊎ (result ≡ Status.MkfsRange) → disk.new ≡ disk.old }
     ensures mkfs_untouched { IsAnyMkfs (bytes_of words.now) → (result ≡ Status.Memory) → disk.new ≡ disk.old }
-    ensures list_untouched { IsList (bytes_of words.now) → (D.seen disk.new ≡ D.seen disk.old) × (D.told disk.new ≡ D.told disk.old) }
-    ensures list_sound { IsList (bytes_of words.now) → IsDone result → IfTold (D.seen disk.old) IsFaultless }
-    ensures text { (IsRun (bytes_of words.now) → ⊥) → (text : List ℕ) × IsTextOf (bytes_of words.now) (D.seen disk.old) result text × IsTold result text (K.taken to.old) (K.taken to.new) (K.faults to.old) (K.faults to.new) }
+    ensures list_untouched { IsList (bytes_of words.now) → (D.seen disk.new ≡ D.seen disk.old) × (D.lost disk.new ≡ D.lost disk.old) × (D.told disk.new ≡ D.told disk.old) }
+    ensures list_sound { IsList (bytes_of words.now) → IsDone result → IfTold (known (D.seen disk.old) (D.lost disk.old)) IsFaultless }
+    ensures text { (IsRun (bytes_of words.now) → ⊥) → (text : List ℕ) × IsTextOf (bytes_of words.now) (known (D.seen disk.old) (D.lost disk.old)) result text × IsPut result text (K.taken to.old) (K.taken to.new) (K.faults to.old) (K.faults to.new) }
 
     // What a run of a script answers, what it writes, and what a crash at any moment leaves.
-    ensures run { IsRun (bytes_of words.now) → (text : List ℕ) × IsTold result text (K.taken to.old) (K.taken to.new) (K.faults to.old) (K.faults to.new)
+    ensures run { IsRun (bytes_of words.now) → (text : List ℕ) × IsPut result text (K.taken to.old) (K.taken to.new) (K.faults to.old) (K.faults to.new)
         × IsRunAnswer (record { left = S.left from.old; faults = S.faults from.old }) (record { left = S.left from.new; faults = S.faults from.new })
-        (outside (D.seen disk.old) (D.told disk.old) (K.taken to.old) (D.faults disk.old) (K.faults to.old)) (outside (D.seen disk.new) (D.told disk.new) (K.taken to.new) (D.faults disk.new) (K.faults to.new)) result text }
+        (outside (known (D.seen disk.old) (D.lost disk.old)) (D.told disk.old) (K.taken to.old) (D.faults disk.old) (K.faults to.old)) (outside (known (D.seen disk.new) (D.lost disk.new)) (D.told disk.new) (K.taken to.new) (D.faults disk.new) (K.faults to.new)) result text }
 
     // What is on the disk once a volume was made, and what a crash at any moment leaves.
     ensures stands { IsAnyMkfs (bytes_of words.now) → IsDone result → IfTold (D.seen disk.new) (λ image. Stands image (bare_volume 1)) }
@@ -153,7 +153,7 @@ fn make<D: Disk>(alloc: Global, fsid: &str, blocks: &str, subs: &str, disk: &mut
 /// Writes the line of the volume that was made, and gives `Done` or `WriteFault`.
 fn tell_made<K: Sink>(words: &[String], to: &mut K) -> Status
     ensures answer { (result ≡ Status.Done) ⊎ (result ≡ Status.WriteFault) }
-    ensures text { IsTold result (made_line (bytes_of words.now)) (K.taken to.old) (K.taken to.new) (K.faults to.old) (K.faults to.new) }
+    ensures text { IsPut result (made_line (bytes_of words.now)) (K.taken to.old) (K.taken to.new) (K.faults to.old) (K.faults to.new) }
     ensures write_fault { (result ≡ Status.WriteFault) → HasRisen (K.faults to.old) (K.faults to.new) }
     ensures counted { K.faults to.old ≤ K.faults to.new }
 {

@@ -1,10 +1,10 @@
 //! The command `list`.
 ghost use Rattle.std.specs.Prelude.{◌≡◌, ◌≢◌, ◌≤◌, ◌⊎◌, List, ℕ};
-ghost use Rattle.disk_model.specs.Disk.{IfTold};
+ghost use Rattle.disk_model.specs.Disk.{IfTold, known};
 ghost use Rattle.flat_model.specs.Volume.{volume_of};
 ghost use Rattle.mount_volume.specs.declared.fault.MountFault.{MountFault};
 ghost use Rattle.mount_volume.specs.Answer.{HasRisen};
-ghost use Rattle.script_runner.specs.Commands.{HasOneLeaf, IsDone, IsFaultOf, IsFaultless, IsOfList, IsListAnswer, IsListText, IsTold, status_of};
+ghost use Rattle.script_runner.specs.Commands.{HasOneLeaf, IsDone, IsFaultOf, IsFaultless, IsOfList, IsListAnswer, IsListText, IsPut, status_of};
 
 use crate::Status;
 use crate::answer::answer;
@@ -29,7 +29,7 @@ pub(crate) fn status_of(fault: MountFault) -> Status
 /// Writes the listing of a volume, or the line of want of memory.
 fn print<K: Sink>(alloc: Global, volume: &FlatVolume, to: &mut K) -> Status
     ensures answer { (result ≡ Status.Done) ⊎ (result ≡ Status.WriteFault) ⊎ (result ≡ Status.Memory) }
-    ensures text { (text : List ℕ) × IsListAnswer (volume_of volume.now) result text × IsTold result text (K.taken to.old) (K.taken to.new) (K.faults to.old) (K.faults to.new) }
+    ensures text { (text : List ℕ) × IsListAnswer (volume_of volume.now) result text × IsPut result text (K.taken to.old) (K.taken to.new) (K.faults to.old) (K.faults to.new) }
     ensures write_fault { (result ≡ Status.WriteFault) → HasRisen (K.faults to.old) (K.faults to.new) }
     ensures counted { K.faults to.old ≤ K.faults to.new }
 {
@@ -43,15 +43,16 @@ fn print<K: Sink>(alloc: Global, volume: &FlatVolume, to: &mut K) -> Status
 /// Writes the listing of the volume on the disk, or the line of why it can't be mounted.
 pub(crate) fn list<K: Sink, D: Disk>(alloc: Global, to: &mut K, disk: &mut D) -> Status
     ensures command { IsOfList result }
-    ensures no_volume { (fault : MountFault) → (result ≡ Status.NoVolume fault) → IsFaultOf (D.seen disk.old) fault }
+    ensures no_volume { (fault : MountFault) → (result ≡ Status.NoVolume fault) → IsFaultOf (known (D.seen disk.old) (D.lost disk.old)) fault }
     ensures disk_fault { (result ≡ Status.DiskFault) → HasRisen (D.faults disk.old) (D.faults disk.new) }
     ensures write_fault { (result ≡ Status.WriteFault) → HasRisen (K.faults to.old) (K.faults to.new) }
-    ensures complete { IfTold (D.seen disk.old) (λ image. HasOneLeaf image
+    ensures complete { IfTold (known (D.seen disk.old) (D.lost disk.old)) (λ image. HasOneLeaf image
         → (HasRisen (D.faults disk.old) (D.faults disk.new) → ⊥) → (HasRisen (K.faults to.old) (K.faults to.new) → ⊥) → (result ≡ Status.Done) ⊎ (result ≡ Status.Memory)) }
 
-    ensures sound { IsDone result → IfTold (D.seen disk.old) IsFaultless }
-    ensures text { (text : List ℕ) × IsListText (D.seen disk.old) result text × IsTold result text (K.taken to.old) (K.taken to.new) (K.faults to.old) (K.faults to.new) }
+    ensures sound { IsDone result → IfTold (known (D.seen disk.old) (D.lost disk.old)) IsFaultless }
+    ensures text { (text : List ℕ) × IsListText (known (D.seen disk.old) (D.lost disk.old)) result text × IsPut result text (K.taken to.old) (K.taken to.new) (K.faults to.old) (K.faults to.new) }
     ensures seen { D.seen disk.new ≡ D.seen disk.old }
+    ensures lost { D.lost disk.new ≡ D.lost disk.old }
     ensures told { D.told disk.new ≡ D.told disk.old }
 
     ensures size { D.count disk.new ≡ D.count disk.old }

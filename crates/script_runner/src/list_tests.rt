@@ -1,8 +1,6 @@
-ghost use Rattle.std.specs.Prelude.{◌≡◌};
-
-use crate::tests::{FSID, ListDisk, run};
+use crate::tests::{FSID, run};
 use blk_base::{Block, crc32c, put_u32, put_u64};
-use disk_memory::NeverFails;
+use disk_memory::{ListDisk, NeverFails};
 use disk_model::{Disk, DiskFailed};
 use io_edge::MemorySink;
 use std::alloc::Global;
@@ -27,48 +25,21 @@ fn change<D: Disk>(disk: &mut D) -> Result<(), DiskFailed> {
     disk.write(18, &block)
 }
 
+/// The exit status of a `list` of a disk, and its text, where the sink fails at this write.
+fn list<D: Disk>(alloc: Global, disk: &mut D, fails: u64) -> Result<(u8, MemorySink), Fail> {
+    let mut to = MemorySink::new(alloc, &[fails])?;
+    let code = run(alloc, &["list"], disk, &mut to)?;
+    Ok((code, to))
+}
+
 #[test]
 fn a_made_volume_has_its_root_directory(rt: HostRuntime) -> Result<(), Fail> {
     let mut disk = made(rt.alloc())?;
-    let mut to = MemorySink::new(rt.alloc(), &[])?;
-    assert_eq!(rt; run(rt.alloc(), &["list"], &mut disk, &mut to)?, 0);
+    let (code, to) = list(rt.alloc(), &mut disk, 0)?;
+    assert_eq!(rt; code, 0);
     assert_eq!(rt; to.bytes(), b"sub 5\n256 dir 1 0 - /\ndone 1\n".as_slice());
-    Ok(())
-}
-
-#[test]
-fn zeros_have_no_magic(rt: HostRuntime) -> Result<(), Fail> {
-    let mut disk = ListDisk::new(rt.alloc(), 4096, 0);
-    let mut to = MemorySink::new(rt.alloc(), &[])?;
-    assert_eq!(rt; run(rt.alloc(), &["list"], &mut disk, &mut to)?, 3);
-    assert_eq!(rt; to.bytes(), b"volume super magic\n".as_slice());
-    Ok(())
-}
-
-#[test]
-fn a_changed_leaf_fails_its_sum(rt: HostRuntime) -> Result<(), Fail> {
-    let mut disk = made(rt.alloc())?;
-    change(&mut disk)?;
-    let mut to = MemorySink::new(rt.alloc(), &[])?;
-    assert_eq!(rt; run(rt.alloc(), &["list"], &mut disk, &mut to)?, 3);
-    assert_eq!(rt; to.bytes(), b"volume block 73728 checksum\n".as_slice());
-    Ok(())
-}
-
-#[test]
-fn a_disk_that_fails_is_no_volume_fault(rt: HostRuntime) -> Result<(), Fail> {
-    let mut disk = ListDisk::new(rt.alloc(), 4096, 1);
-    let mut to = MemorySink::new(rt.alloc(), &[])?;
-    assert_eq!(rt; run(rt.alloc(), &["list"], &mut disk, &mut to)?, 4);
-    assert_eq!(rt; to.bytes(), b"disk\n".as_slice());
-    Ok(())
-}
-
-#[test]
-fn a_sink_that_fails_ends_a_listing(rt: HostRuntime) -> Result<(), Fail> {
-    let mut disk = made(rt.alloc())?;
-    let mut to = MemorySink::new(rt.alloc(), &[1])?;
-    assert_eq!(rt; run(rt.alloc(), &["list"], &mut disk, &mut to)?, 6);
+    let (code, to) = list(rt.alloc(), &mut disk, 1)?;
+    assert_eq!(rt; code, 6);
     assert_eq!(rt; to.bytes().len(), 0);
     Ok(())
 }
@@ -81,9 +52,7 @@ fn listed(alloc: Global, superblock: &mut Block) -> Result<MemorySink, Fail> {
     if disk.blocks() <= 16 || disk.write_super(superblock).is_err() {
         return Err(Fail::from("no superblock"));
     }
-    let mut to = MemorySink::new(alloc, &[])?;
-    run(alloc, &["list"], &mut disk, &mut to)?;
-    Ok(to)
+    Ok(list(alloc, &mut disk, 0)?.1)
 }
 
 /// The superblock of an empty volume of 4096 blocks.
@@ -123,5 +92,20 @@ fn other_images_are_named(rt: HostRuntime) -> Result<(), Fail> {
         listed(alloc, &mut short)?.bytes(),
         b"volume super size\n".as_slice()
     );
+
+    // With a byte of the subvolume's leaf changed.
+    let mut changed = made(alloc)?;
+    change(&mut changed)?;
+    let (code, to) = list(alloc, &mut changed, 0)?;
+    assert_eq!(rt; code, 3);
+    assert_eq!(rt; to.bytes(), b"volume block 73728 checksum\n".as_slice());
+
+    // A disk of zeros, and one that fails.
+    for (fails, wanted, text) in [(0, 3, "volume super magic\n"), (1, 4, "disk\n")] {
+        let mut disk = ListDisk::<4096>::new(alloc, fails);
+        let (code, to) = list(alloc, &mut disk, 0)?;
+        assert_eq!(rt; code, wanted);
+        assert_eq!(rt; to.bytes(), text.as_bytes());
+    }
     Ok(())
 }

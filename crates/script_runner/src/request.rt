@@ -3,10 +3,7 @@ ghost use Rattle.script_runner.specs.Words.{IsNumber};
 ghost use Rattle.script_runner.specs.Commands.{AreInRange, AsksForBlocks, Says, bytes_of};
 
 use crate::words::{number, uuid_bytes};
-use mount_volume::{LEAST_BLOCKS, MOST_BLOCKS};
-
-/// The most subvolumes of a volume.
-const MOST_SUBS: u32 = 16;
+use blk_base::limits::{FEWEST_BLOCKS, MOST_BLOCKS, MOST_SUBS};
 
 /// What the three words of `mkfs` say of a volume: its uuid, its blocks of 4096 bytes, at most 65,536, and its
 /// subvolumes, at most 16.
@@ -40,7 +37,7 @@ fn block_number(word: &[u8]) -> Option<u32>
     ensures none { IsNone result → (blocks : ℕ) → IsNumber word.now blocks → 4096 ≤ blocks → blocks ≤ 65536 → ⊥ }
 {
     let blocks = number(word, MOST_BLOCKS)?;
-    if blocks < LEAST_BLOCKS {
+    if blocks < FEWEST_BLOCKS {
         return None;
     }
     Some(blocks)

@@ -1,8 +1,8 @@
 //! The command `run`.
 ghost use Rattle.std.specs.Prelude.{◌≡◌, ◌≤◌, List, ℕ};
-ghost use Rattle.disk_model.specs.Disk.{IfTold};
+ghost use Rattle.disk_model.specs.Disk.{IfTold, known};
 ghost use Rattle.mount_volume.specs.Answer.{IsMountedAs, IsReady};
-ghost use Rattle.script_runner.specs.Commands.{IsFaultless, IsOfScript, IsTold};
+ghost use Rattle.script_runner.specs.Commands.{IsFaultless, IsOfScript, IsPut};
 ghost use Rattle.leaf_lines.specs.Lines.{AreAllowed};
 ghost use Rattle.script_runner.specs.Run.{FromSource, IsLinesAnswer, IsRead, IsRunAnswer, outside, status_of_script, status_of_source};
 
@@ -10,11 +10,10 @@ use crate::Status;
 use crate::answer::answer;
 use crate::list::status_of;
 use disk_model::Disk;
-use io_edge::{Sink, Source};
+use io_edge::{ReadFault, Sink, Source, read_all};
 use leaf_lines::{RunFault, run_lines};
 use leaf_run::LeafRun;
 use mount_volume::{Mounted, mount};
-use io_edge::{ReadFault, read_all};
 use script_text::{Line, ScriptFault, parse};
 use std::alloc::Global;
 
@@ -48,9 +47,9 @@ fn run_mounted<K: Sink, D: Disk>(
 ) -> Status
     requires allowed { AreAllowed lines.now }
     requires ready { IsReady mounted (D.count disk.old) }
-    requires stands { IfTold (D.seen disk.old) (λ image. IsMountedAs image mounted × IsFaultless image) }
-    ensures answer { (faults : ℕ) → faults ≤ D.faults disk.old → (text : List ℕ) × IsTold result text (K.taken to.old) (K.taken to.new) (K.faults to.old) (K.faults to.new)
-        × IsLinesAnswer lines.now (outside (D.seen disk.old) (D.told disk.old) (K.taken to.old) faults (K.faults to.old)) (outside (D.seen disk.new) (D.told disk.new) (K.taken to.new) (D.faults disk.new) (K.faults to.new)) result text }
+    requires stands { IfTold (known (D.seen disk.old) (D.lost disk.old)) (λ image. IsMountedAs image mounted × IsFaultless image) }
+    ensures answer { (faults : ℕ) → faults ≤ D.faults disk.old → (text : List ℕ) × IsPut result text (K.taken to.old) (K.taken to.new) (K.faults to.old) (K.faults to.new)
+        × IsLinesAnswer lines.now (outside (known (D.seen disk.old) (D.lost disk.old)) (D.told disk.old) (K.taken to.old) faults (K.faults to.old)) (outside (known (D.seen disk.new) (D.lost disk.new)) (D.told disk.new) (K.taken to.new) (D.faults disk.new) (K.faults to.new)) result text }
     ensures size { D.count disk.new ≡ D.count disk.old }
     ensures disk_counted { D.faults disk.old ≤ D.faults disk.new }
     ensures sink_counted { K.faults to.old ≤ K.faults to.new }
@@ -66,8 +65,8 @@ fn run_mounted<K: Sink, D: Disk>(
 /// Mounts the volume and runs the lines of a script on it.
 fn run_script<K: Sink, D: Disk>(alloc: Global, lines: &[Line], disk: &mut D, to: &mut K) -> Status
     requires { AreAllowed lines.now }
-    ensures answer { (text : List ℕ) × IsTold result text (K.taken to.old) (K.taken to.new) (K.faults to.old) (K.faults to.new)
-        × IsLinesAnswer lines.now (outside (D.seen disk.old) (D.told disk.old) (K.taken to.old) (D.faults disk.old) (K.faults to.old)) (outside (D.seen disk.new) (D.told disk.new) (K.taken to.new) (D.faults disk.new) (K.faults to.new)) result text }
+    ensures answer { (text : List ℕ) × IsPut result text (K.taken to.old) (K.taken to.new) (K.faults to.old) (K.faults to.new)
+        × IsLinesAnswer lines.now (outside (known (D.seen disk.old) (D.lost disk.old)) (D.told disk.old) (K.taken to.old) (D.faults disk.old) (K.faults to.old)) (outside (known (D.seen disk.new) (D.lost disk.new)) (D.told disk.new) (K.taken to.new) (D.faults disk.new) (K.faults to.new)) result text }
     ensures size { D.count disk.new ≡ D.count disk.old }
     ensures disk_counted { D.faults disk.old ≤ D.faults disk.new }
     ensures sink_counted { K.faults to.old ≤ K.faults to.new }
@@ -80,8 +79,8 @@ fn run_script<K: Sink, D: Disk>(alloc: Global, lines: &[Line], disk: &mut D, to:
 
 /// Runs the script of the bytes, or writes the line of its first fault.
 fn run_bytes<K: Sink, D: Disk>(alloc: Global, bytes: &[u8], disk: &mut D, to: &mut K) -> Status
-    ensures answer { (given left : FromSource) → IsRead given left bytes.now → (text : List ℕ) × IsTold result text (K.taken to.old) (K.taken to.new) (K.faults to.old) (K.faults to.new)
-        × IsRunAnswer given left (outside (D.seen disk.old) (D.told disk.old) (K.taken to.old) (D.faults disk.old) (K.faults to.old)) (outside (D.seen disk.new) (D.told disk.new) (K.taken to.new) (D.faults disk.new) (K.faults to.new)) result text }
+    ensures answer { (given left : FromSource) → IsRead given left bytes.now → (text : List ℕ) × IsPut result text (K.taken to.old) (K.taken to.new) (K.faults to.old) (K.faults to.new)
+        × IsRunAnswer given left (outside (known (D.seen disk.old) (D.lost disk.old)) (D.told disk.old) (K.taken to.old) (D.faults disk.old) (K.faults to.old)) (outside (known (D.seen disk.new) (D.lost disk.new)) (D.told disk.new) (K.taken to.new) (D.faults disk.new) (K.faults to.new)) result text }
     ensures untouched { IsOfScript result → disk.new ≡ disk.old }
     ensures size { D.count disk.new ≡ D.count disk.old }
     ensures disk_counted { D.faults disk.old ≤ D.faults disk.new }
@@ -100,9 +99,9 @@ pub(crate) fn run<S: Source, K: Sink, D: Disk>(
     to: &mut K,
     disk: &mut D,
 ) -> Status
-    ensures answer { (text : List ℕ) × IsTold result text (K.taken to.old) (K.taken to.new) (K.faults to.old) (K.faults to.new)
+    ensures answer { (text : List ℕ) × IsPut result text (K.taken to.old) (K.taken to.new) (K.faults to.old) (K.faults to.new)
         × IsRunAnswer (record { left = S.left from.old; faults = S.faults from.old }) (record { left = S.left from.new; faults = S.faults from.new })
-        (outside (D.seen disk.old) (D.told disk.old) (K.taken to.old) (D.faults disk.old) (K.faults to.old)) (outside (D.seen disk.new) (D.told disk.new) (K.taken to.new) (D.faults disk.new) (K.faults to.new)) result text }
+        (outside (known (D.seen disk.old) (D.lost disk.old)) (D.told disk.old) (K.taken to.old) (D.faults disk.old) (K.faults to.old)) (outside (known (D.seen disk.new) (D.lost disk.new)) (D.told disk.new) (K.taken to.new) (D.faults disk.new) (K.faults to.new)) result text }
     ensures untouched { IsOfScript result → disk.new ≡ disk.old }
     ensures size { D.count disk.new ≡ D.count disk.old }
     ensures source_counted { S.faults from.old ≤ S.faults from.new }

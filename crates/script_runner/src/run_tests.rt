@@ -67,35 +67,6 @@ fn made(alloc: Global, calls: u64) -> Result<MemoryDisk, Fail> {
 /// More device calls than any of these scripts makes.
 const ALL: u64 = 1000;
 
-#[test]
-fn a_synced_file_is_listed(rt: HostRuntime) -> Result<(), Fail> {
-    let mut disk = made(rt.alloc(), ALL)?;
-    let (status, text) = run(rt.alloc(), SYNCED, &mut disk)?;
-    assert_eq!(rt; status, Status::Done);
-    assert_eq!(rt;
-        text.bytes(),
-        b"1 ok 257\n1 ok 2\n1 ok sync\ndone 3\n".as_slice()
-    );
-    let (status, text) = list(rt.alloc(), &mut disk)?;
-    assert_eq!(rt; status, Status::Done);
-    assert_eq!(rt; text.bytes(), WRITTEN);
-    Ok(())
-}
-
-#[test]
-fn nothing_is_kept_without_a_sync(rt: HostRuntime) -> Result<(), Fail> {
-    let mut disk = made(rt.alloc(), ALL)?;
-    let (status, text) = run(rt.alloc(), b"", &mut disk)?;
-    assert_eq!(rt; status, Status::Done);
-    assert_eq!(rt; text.bytes(), b"done 0\n".as_slice());
-    let (status, text) = run(rt.alloc(), b"# a file\n\n16 create /a", &mut disk)?;
-    assert_eq!(rt; status, Status::Done);
-    assert_eq!(rt; text.bytes(), b"16 ok 257\ndone 1\n".as_slice());
-    let (_, text) = list(rt.alloc(), &mut disk)?;
-    assert_eq!(rt; text.bytes(), EMPTY);
-    Ok(())
-}
-
 /// Twelve files, of which eleven fit a leaf with one extent.
 const TWELVE: &[u8] = b"1 create /a
 1 create /b
@@ -114,14 +85,8 @@ const TWELVE: &[u8] = b"1 create /a
 1 sync
 ";
 
-#[test]
-fn a_leaf_has_so_much_room(rt: HostRuntime) -> Result<(), Fail> {
-    let mut disk = made(rt.alloc(), ALL)?;
-    let (status, text) = run(rt.alloc(), TWELVE, &mut disk)?;
-    assert_eq!(rt; status, Status::Done);
-    assert_eq!(rt;
-        text.bytes(),
-        b"1 ok 257
+/// The text of `TWELVE`.
+const TWELVE_TEXT: &str = "1 ok 257
 1 ok 258
 1 ok 259
 1 ok 260
@@ -137,9 +102,31 @@ fn a_leaf_has_so_much_room(rt: HostRuntime) -> Result<(), Fail> {
 1 oneleaf
 1 ok sync
 done 15
-"
-            .as_slice()
-    );
+";
+
+#[test]
+fn a_script_has_its_text_and_its_volume(rt: HostRuntime) -> Result<(), Fail> {
+    let rows = [
+        (SYNCED, "1 ok 257\n1 ok 2\n1 ok sync\ndone 3\n", WRITTEN),
+        (b"".as_slice(), "done 0\n", EMPTY),
+        (
+            b"# a file\n\n16 create /a".as_slice(),
+            "16 ok 257\ndone 1\n",
+            EMPTY,
+        ),
+    ];
+    for (script, text, listing) in rows {
+        let mut disk = made(rt.alloc(), ALL)?;
+        let (status, told) = run(rt.alloc(), script, &mut disk)?;
+        assert_eq!(rt; status, Status::Done);
+        assert_eq!(rt; told.bytes(), text.as_bytes());
+        let (status, listed) = list(rt.alloc(), &mut disk)?;
+        assert_eq!(rt; status, Status::Done);
+        assert_eq!(rt; listed.bytes(), listing);
+    }
+    let mut disk = made(rt.alloc(), ALL)?;
+    let (_, told) = run(rt.alloc(), TWELVE, &mut disk)?;
+    assert_eq!(rt; told.bytes(), TWELVE_TEXT.as_bytes());
     Ok(())
 }
 
@@ -161,59 +148,54 @@ fn crashes(alloc: Global, disk: &MemoryDisk) -> Result<(u32, u32, u32), Fail> {
     Ok(found)
 }
 
-/// What a script comes to on a disk that stops behind so many device calls: the status, and whether the text is this one.
-fn stopped(alloc: Global, calls: u64, text: &[u8]) -> Result<(u8, bool, (u32, u32, u32)), Fail> {
+/// The exit status of `SYNCED` on a disk that stops behind so many device calls, whether its text is this one, and the
+/// images that a crash leaves.
+fn stopped(alloc: Global, calls: u64, text: &str) -> Result<(u8, bool, (u32, u32, u32)), Fail> {
     let mut disk = made(alloc, calls)?;
     let (status, told) = run(alloc, SYNCED, &mut disk)?;
     let found = crashes(alloc, &disk)?;
-    Ok((status.code(), told.bytes() == text, found))
+    Ok((status.code(), told.bytes() == text.as_bytes(), found))
 }
 
 /// The text of `SYNCED` on a disk that fails in the sync.
-const FAILED: &[u8] = b"1 ok 257\n1 ok 2\n1 io\ndone 3\n";
+const FAILED: &str = "1 ok 257\n1 ok 2\n1 io\ndone 3\n";
 
 #[test]
-fn a_crash_before_the_superblock_leaves_the_old(rt: HostRuntime) -> Result<(), Fail> {
-    // Three reads of the mount.
-    for calls in 0..3 {
-        assert_eq!(rt;
-            stopped(rt.alloc(), calls, b"disk\n")?,
-            (4, true, (8, 0, 0))
-        );
+fn a_crash_leaves_the_old_volume_or_the_new(rt: HostRuntime) -> Result<(), Fail> {
+    // Three reads of the mount, three writes, the flush and the superblock.
+    let rows = [
+        (0, 4, "disk\n", (8, 0, 0)),
+        (1, 4, "disk\n", (8, 0, 0)),
+        (2, 4, "disk\n", (8, 0, 0)),
+        (3, 0, FAILED, (8, 0, 0)),
+        (4, 0, FAILED, (8, 0, 0)),
+        (5, 0, FAILED, (8, 0, 0)),
+        (6, 0, FAILED, (8, 0, 0)),
+        (8, 0, "1 ok 257\n1 ok 2\n1 ok sync\ndone 3\n", (0, 8, 0)),
+    ];
+    for (calls, code, text, found) in rows {
+        assert_eq!(rt; stopped(rt.alloc(), calls, text)?, (code, true, found));
     }
-    // Three writes, and the flush.
-    for calls in 3..7 {
-        assert_eq!(rt; stopped(rt.alloc(), calls, FAILED)?, (0, true, (8, 0, 0)));
-    }
-    Ok(())
-}
-
-#[test]
-fn a_crash_in_the_superblock_leaves_one_of_both(rt: HostRuntime) -> Result<(), Fail> {
-    let (status, is_text, (old, new, other)) = stopped(rt.alloc(), 7, FAILED)?;
-    assert_eq!(rt; (status, is_text, other), (0, true, 0));
+    // Where the write of the superblock fails, one of both.
+    let (code, is_text, (old, new, other)) = stopped(rt.alloc(), 7, FAILED)?;
+    assert_eq!(rt; (code, is_text, other), (0, true, 0));
     assert!(rt; old > 0 && new > 0);
     Ok(())
 }
 
 #[test]
-fn a_crash_behind_the_superblock_leaves_the_new(rt: HostRuntime) -> Result<(), Fail> {
-    let text = b"1 ok 257\n1 ok 2\n1 ok sync\ndone 3\n";
-    assert_eq!(rt; stopped(rt.alloc(), 8, text)?, (0, true, (0, 8, 0)));
-    Ok(())
-}
-
-#[test]
-fn a_failed_superblock_is_written_again(rt: HostRuntime) -> Result<(), Fail> {
-    // Four calls made the volume; three reads, three writes and a flush come before the superblock.
-    let mut disk = made_failing(rt.alloc(), &[12])?;
-    let script = b"1 create /a\n1 write /a 0 hi\n1 sync\n1 sync\n";
-    let (_, text) = run(rt.alloc(), script, &mut disk)?;
-    assert_eq!(rt;
-        text.bytes(),
-        b"1 ok 257\n1 ok 2\n1 io\n1 ok sync\ndone 4\n".as_slice()
-    );
-    assert_eq!(rt; crashes(rt.alloc(), &disk)?, (0, 8, 0));
+fn a_sync_makes_good_one_that_failed(rt: HostRuntime) -> Result<(), Fail> {
+    // Four calls made the volume; three reads, three writes, the flush and the superblock follow.
+    for fails in [8, 10, 11, 12] {
+        let mut disk = made_failing(rt.alloc(), &[fails])?;
+        let script = b"1 create /a\n1 write /a 0 hi\n1 sync\n1 sync\n";
+        let (_, text) = run(rt.alloc(), script, &mut disk)?;
+        assert_eq!(rt;
+            text.bytes(),
+            b"1 ok 257\n1 ok 2\n1 io\n1 ok sync\ndone 4\n".as_slice()
+        );
+        assert_eq!(rt; crashes(rt.alloc(), &disk)?, (0, 8, 0));
+    }
     Ok(())
 }
 

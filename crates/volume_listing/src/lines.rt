@@ -16,6 +16,7 @@ use blk_base::{Name, OutOfMemory, Text, crc32c};
 use flat_model::{Kind, NameAt};
 use flat_record::{Inode, place_of};
 use flat_sub::FlatSub;
+use io_edge::{push_printed, push_sum};
 use std::alloc::Global;
 
 /// How many names a line shows of a directory.

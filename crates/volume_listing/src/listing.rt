@@ -12,7 +12,7 @@ use crate::lines::put_lines;
 use blk_base::OutOfMemory;
 use flat_sub::FlatSub;
 use flat_volume::FlatVolume;
-use io_edge::{Sink, SinkFailed, put};
+use io_edge::{Sink, SinkFailed, put, push_number};
 use std::alloc::Global;
 use thiserror::Error;
 

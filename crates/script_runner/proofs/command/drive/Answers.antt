@@ -1,6 +1,6 @@
 use Rattle.std.proofs.Common.{refl, sym, ◌∙◌, subst, inl, inr, Option}
 use Rattle.std.proofs.lemmas.Bool.{false≢true}
-use Rattle.disk_model.specs.Disk.{Told}
+use Rattle.disk_model.specs.Disk.{known, Told}
 use Rattle.mount_volume.specs.Mkfs.{CrashLeaves, IsOldOrBare}
 use Rattle.mount_volume.proofs.MkfsBlocks.{crash_same}
 use Rattle.script_runner.specs.Commands.{bytes_of, made_line}
@@ -22,9 +22,9 @@ returns-then-is_only-2-clause-no_volume g c = λ fault is. (inr (c.if-is_only-2.
 pub returns-in-Done-clause-text : goal.returns-in-Done-clause-text
 returns-in-Done-clause-text g c = λ other.
     let words = bytes_of c.args.words.now in
-    (made_line words, made_text words (g.D.Disk.seen c.args.disk.now) c.tell_made.result c.tell_made.ensures.answer (λ list. false≢true (sym c.if-is_only.false ∙ c.is_only.ensures.1 list)), c.tell_made.ensures.text)
+    (made_line words, made_text words (known (g.D.Disk.seen c.args.disk.now) (g.D.Disk.lost c.args.disk.now)) c.tell_made.result c.tell_made.ensures.answer (λ list. false≢true (sym c.if-is_only.false ∙ c.is_only.ensures.1 list)), c.tell_made.ensures.text)
 
 pub returns-then-is_only-2-clause-run_complete : goal.returns-then-is_only-2-clause-run_complete
 returns-then-is_only-2-clause-run_complete g c = λ _.
     let disk = c.args.disk.now in
-    run_complete _ _ (g.D.Disk.seen disk) (g.D.Disk.told disk) (g.K.Sink.taken c.args.to.now) (g.D.Disk.faults disk) (g.K.Sink.faults c.args.to.now) _ c.run.result c.run.ensures.answer.0 c.run.ensures.answer.2
+    run_complete _ _ (known (g.D.Disk.seen disk) (g.D.Disk.lost disk)) (g.D.Disk.told disk) (g.K.Sink.taken c.args.to.now) (g.D.Disk.faults disk) (g.K.Sink.faults c.args.to.now) _ c.run.result c.run.ensures.answer.0 c.run.ensures.answer.2

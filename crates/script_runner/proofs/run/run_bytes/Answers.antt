@@ -9,6 +9,7 @@ use Rattle.script_runner.specs.declared.status.Status.{Status}
 use Rattle.script_runner.specs.Commands.{answer_line}
 use Rattle.script_runner.specs.Run.{outside}
 use Rattle.script_runner.proofs.RunLemmas.{told_parsed, told_unparsed}
+use Rattle.disk_model.specs.Disk.{known}
 use Rattle.script_runner.proofs.run.run_bytes.Goals as goal
 
 pub run_script-requires : goal.run_script-requires
@@ -18,16 +19,16 @@ pub returns-in-Ok-clause-answer : goal.returns-in-Ok-clause-answer
 returns-in-Ok-clause-answer g c = λ given left read.
     let disk = c.args.disk.now in
     let next = c.run_script.new in
-    let before = outside (g.D.Disk.seen disk) (g.D.Disk.told disk) (g.K.Sink.taken c.args.to.now) (g.D.Disk.faults disk) (g.K.Sink.faults c.args.to.now) in
-    let after = outside (g.D.Disk.seen next.disk) (g.D.Disk.told next.disk) (g.K.Sink.taken next.to) (g.D.Disk.faults next.disk) (g.K.Sink.faults next.to) in
+    let before = outside (known (g.D.Disk.seen disk) (g.D.Disk.lost disk)) (g.D.Disk.told disk) (g.K.Sink.taken c.args.to.now) (g.D.Disk.faults disk) (g.K.Sink.faults c.args.to.now) in
+    let after = outside (known (g.D.Disk.seen next.disk) (g.D.Disk.lost next.disk)) (g.D.Disk.told next.disk) (g.K.Sink.taken next.to) (g.D.Disk.faults next.disk) (g.K.Sink.faults next.to) in
     let script : script_of c.args.bytes.now ≡ Ok c.lines.result.now = c.in-Ok.ensures ∙ ap (λ (ls : List Line). Ok ls) (sym c.lines.ensures) in
     told_parsed given left before after c.run_script.result c.args.bytes.now c.lines.result.now read script c.run_script.ensures.answer
 
 pub returns-in-Err-clause-answer : goal.returns-in-Err-clause-answer
 returns-in-Err-clause-answer g c = λ given left read.
     let disk = c.args.disk.now in
-    let before = outside (g.D.Disk.seen disk) (g.D.Disk.told disk) (g.K.Sink.taken c.args.to.now) (g.D.Disk.faults disk) (g.K.Sink.faults c.args.to.now) in
-    let after = outside (g.D.Disk.seen disk) (g.D.Disk.told disk) (g.K.Sink.taken c.answer.new.to) (g.D.Disk.faults disk) (g.K.Sink.faults c.answer.new.to) in
+    let before = outside (known (g.D.Disk.seen disk) (g.D.Disk.lost disk)) (g.D.Disk.told disk) (g.K.Sink.taken c.args.to.now) (g.D.Disk.faults disk) (g.K.Sink.faults c.args.to.now) in
+    let after = outside (known (g.D.Disk.seen disk) (g.D.Disk.lost disk)) (g.D.Disk.told disk) (g.K.Sink.taken c.answer.new.to) (g.D.Disk.faults disk) (g.K.Sink.faults c.answer.new.to) in
     let status = c.status_of_script.ensures in
     told_unparsed given left before after c.answer.result c.args.bytes.now c.in-Err.fault (c.answer.ensures.same ∙ status) read c.in-Err.ensures (record { seen = refl; told = refl })
     (subst (λ (s : Status). TakesFront (g.K.Sink.taken c.args.to.now) (answer_line s) (g.K.Sink.taken c.answer.new.to)) status c.answer.ensures.front)

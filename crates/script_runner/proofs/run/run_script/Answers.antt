@@ -4,10 +4,11 @@ use Rattle.mount_volume.specs.Answer.{HasRisen}
 use Rattle.mount_volume.specs.declared.fault.MountFault.{MountFault}
 use Rattle.script_runner.specs.declared.status.Status.{Status}
 use Rattle.script_runner.specs.Commands.{answer_line}
-use Rattle.disk_model.specs.Disk.{Told}
+use Rattle.disk_model.specs.Disk.{known, Told}
 use Rattle.volume_image.specs.Tree.{Image}
 use Rattle.script_runner.specs.Run.{outside}
-use Rattle.script_runner.proofs.RunLemmas.{IsToldLines, told_unmounted}
+use Rattle.script_runner.proofs.RunLemmas.{IsPutLines, told_unmounted}
+use Rattle.disk_model.proofs.CrashLaws.{known_same}
 use Rattle.script_runner.proofs.run.run_script.Goals as goal
 
 pub returns-in-Ok-clause-answer : goal.returns-in-Ok-clause-answer
@@ -15,19 +16,19 @@ returns-in-Ok-clause-answer g c =
     let disk = c.args.disk.now in
     let mid = c.mount.new.disk in
     let next = c.run_mounted.new in
-    let after = outside (g.D.Disk.seen next.disk) (g.D.Disk.told next.disk) (g.K.Sink.taken next.to) (g.D.Disk.faults next.disk) (g.K.Sink.faults next.to) in
-    subst (λ (seen : Option Image). IsToldLines c.args.lines.now (outside seen (g.D.Disk.told disk) (g.K.Sink.taken c.args.to.now) (g.D.Disk.faults disk) (g.K.Sink.faults c.args.to.now)) after c.run_mounted.result) c.in-Ok.ensures.seen
-    (subst (λ (told : Option Told). IsToldLines c.args.lines.now (outside (g.D.Disk.seen mid) told (g.K.Sink.taken c.args.to.now) (g.D.Disk.faults disk) (g.K.Sink.faults c.args.to.now)) after c.run_mounted.result) c.in-Ok.ensures.told
+    let after = outside (known (g.D.Disk.seen next.disk) (g.D.Disk.lost next.disk)) (g.D.Disk.told next.disk) (g.K.Sink.taken next.to) (g.D.Disk.faults next.disk) (g.K.Sink.faults next.to) in
+    subst (λ (seen : Option Image). IsPutLines c.args.lines.now (outside seen (g.D.Disk.told disk) (g.K.Sink.taken c.args.to.now) (g.D.Disk.faults disk) (g.K.Sink.faults c.args.to.now)) after c.run_mounted.result) (known_same _ _ _ _ c.in-Ok.ensures.seen c.in-Ok.ensures.lost)
+    (subst (λ (told : Option Told). IsPutLines c.args.lines.now (outside (known (g.D.Disk.seen mid) (g.D.Disk.lost mid)) told (g.K.Sink.taken c.args.to.now) (g.D.Disk.faults disk) (g.K.Sink.faults c.args.to.now)) after c.run_mounted.result) c.in-Ok.ensures.told
     (c.run_mounted.ensures.answer (g.D.Disk.faults disk) c.in-Ok.ensures.counted))
 
 pub returns-in-Err-clause-answer : goal.returns-in-Err-clause-answer
 returns-in-Err-clause-answer g c =
     let disk = c.args.disk.now in
     let next = c.mount.new.disk in
-    let before = outside (g.D.Disk.seen disk) (g.D.Disk.told disk) (g.K.Sink.taken c.args.to.now) (g.D.Disk.faults disk) (g.K.Sink.faults c.args.to.now) in
-    let after = outside (g.D.Disk.seen next) (g.D.Disk.told next) (g.K.Sink.taken c.answer.new.to) (g.D.Disk.faults next) (g.K.Sink.faults c.answer.new.to) in
+    let before = outside (known (g.D.Disk.seen disk) (g.D.Disk.lost disk)) (g.D.Disk.told disk) (g.K.Sink.taken c.args.to.now) (g.D.Disk.faults disk) (g.K.Sink.faults c.args.to.now) in
+    let after = outside (known (g.D.Disk.seen next) (g.D.Disk.lost next)) (g.D.Disk.told next) (g.K.Sink.taken c.answer.new.to) (g.D.Disk.faults next) (g.K.Sink.faults c.answer.new.to) in
     let status = c.status_of.ensures in
     told_unmounted c.args.lines.now before after c.in-Err.fault c.answer.result (c.answer.ensures.same ∙ status) c.in-Err.ensures.fault (λ is. c.in-Err.ensures.disk_fault (ap (λ (e : MountFault). Err e) is))
-    (record { seen = c.in-Err.ensures.seen; told = c.in-Err.ensures.told })
+    (record { seen = known_same _ _ _ _ c.in-Err.ensures.seen c.in-Err.ensures.lost; told = c.in-Err.ensures.told })
     (subst (λ (s : Status). TakesFront (g.K.Sink.taken c.args.to.now) (answer_line s) (g.K.Sink.taken c.answer.new.to)) status c.answer.ensures.front)
     (subst (λ (s : Status). (HasRisen (g.K.Sink.faults c.args.to.now) (g.K.Sink.faults c.answer.new.to) → ⊥) → Takes (g.K.Sink.taken c.args.to.now) (answer_line s) (g.K.Sink.taken c.answer.new.to)) status c.answer.ensures.whole)

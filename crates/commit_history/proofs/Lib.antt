@@ -1,0 +1,11 @@
+pub mod Maps
+pub mod LogNumbers
+pub mod Growth
+pub mod PointsOf
+pub mod StepSurvives
+pub mod Lasting
+pub mod LogHolding
+pub mod StateHolding
+pub mod EventsHold
+pub mod AllHold
+pub mod CallsOf

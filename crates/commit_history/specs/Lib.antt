@@ -1,0 +1,5 @@
+pub mod State
+pub mod Effects
+pub mod Legal
+pub mod Calls
+pub mod Survival
