@@ -43,8 +43,10 @@ pub record IsAccepted (committed : Subvolume) (log : FlatLog) : Type 0 where
   pub root_has_no_name : (name : FlatName) → Contains log.names name → name.ino ≢ 256
   -- it has an inode whole or existing, not both, and of C's kind where C has it
   pub one_item : (ino : ℕ) (whole : WholeInode) → get log.whole ino ≡ Some whole → get log.existing ino ≡ None
-  pub whole_kinds : (ino : ℕ) (was : InodeRecord) (whole : WholeInode) → get committed.inodes ino ≡ Some was → get log.whole ino ≡ Some whole → kind_of was ≡ kind_of_whole whole
-  pub existing_kinds : (ino : ℕ) (was inode : InodeRecord) → get committed.inodes ino ≡ Some was → get log.existing ino ≡ Some inode → kind_of was ≡ kind_of inode
+  pub whole_kinds : (ino : ℕ) (was : InodeRecord) (whole : WholeInode)
+      → get committed.inodes ino ≡ Some was → get log.whole ino ≡ Some whole → kind_of was ≡ kind_of_whole whole
+  pub existing_kinds : (ino : ℕ) (was inode : InodeRecord)
+      → get committed.inodes ino ≡ Some was → get log.existing ino ≡ Some inode → kind_of was ≡ kind_of inode
   -- whole inodes keep their limits, existing ones are as at creation
   pub limits : (ino : ℕ) (whole : WholeInode) → get log.whole ino ≡ Some whole → KeepsWholeLimits whole
   pub created : (ino : ℕ) (inode : InodeRecord) → get log.existing ino ≡ Some inode → at_creation inode ≡ inode

@@ -69,9 +69,14 @@ is_covered ranges dir index = list_any (λ range. nat_eq range.dir dir && (nat_l
 abbrev pub entry_of : FlatName → LogEntry
 entry_of name = record { dir = name.dir; index = name.index; bytes = name.bytes; ino = name.ino }
 
+-- whether an entry is the name's ("DIR_INDEX")
+abbrev pub is_entry_of : FlatName → LogEntry → Bool
+is_entry_of name entry =
+    nat_eq entry.dir name.dir && (nat_eq entry.index name.index && (bytes_eq entry.bytes name.bytes && nat_eq entry.ino name.ino))
+
 -- whether one of these entries is the name's ("DIR_INDEX")
 abbrev pub has_entry : List LogEntry → FlatName → Bool
-has_entry entries name = list_any (λ entry. nat_eq entry.dir name.dir && (nat_eq entry.index name.index && (bytes_eq entry.bytes name.bytes && nat_eq entry.ino name.ino))) entries
+has_entry entries name = list_any (is_entry_of name) entries
 
 -- whether the log drops the name by its ranges: it lies in one and has no equal entry (after the kernel's replay_dir_deletes)
 abbrev pub is_dropped : FlatLog → FlatName → Bool

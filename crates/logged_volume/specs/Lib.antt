@@ -9,3 +9,5 @@ pub mod Accepted
 pub mod Written
 pub mod Standing
 pub mod Weight
+pub mod Laws
+pub mod Worked

@@ -35,7 +35,8 @@ pub record IsLogOf (committed logged : Subvolume) (log : FlatLog) : Type 0 where
   -- every other inode of R is C's, and so are its names
   pub other_inodes : (ino : ℕ) → IsFalse (is_logged log ino) → IsTrue (is_there logged ino) → get logged.inodes ino ≡ get committed.inodes ino
   pub keeps_names : (name : FlatName) → IsFalse (is_logged log name.ino) → Contains logged.names name → Contains committed.names name
-  pub misses_none : (name : FlatName) → IsFalse (is_logged log name.ino) → IsTrue (is_there logged name.ino) → Contains committed.names name → Contains logged.names name
+  pub misses_none : (name : FlatName)
+      → IsFalse (is_logged log name.ino) → IsTrue (is_there logged name.ino) → Contains committed.names name → Contains logged.names name
   -- the names of C that it drops R lacks, and it drops each name of an inode that R lacks
   pub drops_lost : (name : FlatName) → Contains committed.names name → IsTrue (is_dropped log name) → Contains logged.names name → ⊥
   pub drops_gone : (name : FlatName) → Contains committed.names name → IsFalse (is_there logged name.ino) → IsTrue (is_dropped log name)

@@ -90,7 +90,11 @@ logged_inodes log = number_set (keys log.whole ++ keys log.existing)
 
 -- how many items the log has, counted entry by entry: for each inode its inode item and what it has of it; names, ranges and entries (own)
 unfoldable pub item_count : FlatLog → ℕ
-item_count log = sum_by (λ ino. 1 + made_count (get log.existing ino) + change_count (get log.whole ino)) (logged_inodes log) + length log.names + length log.ranges + length log.entries
+item_count log =
+    sum_by (λ ino. 1 + made_count (get log.existing ino) + change_count (get log.whole ino)) (logged_inodes log)
+    + length log.names
+    + length log.ranges
+    + length log.entries
 
 -- a step was made: no rule asked for a full commit in place of it, it left R so, and wrote this log (own)
 pub record IsMade (committed : Subvolume) (step : MadeStep) (before : FlatLog) (logged : Subvolume) (log : FlatLog) : Type 0 where

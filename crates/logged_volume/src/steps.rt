@@ -1,19 +1,18 @@
-ghost use Rattle.std.specs.Prelude.{◌≡◌, ℕ, Bool, None};
-ghost use Rattle.flat_model.specs.Volume.{Subvolume};
 ghost use Rattle.flat_model.specs.Coherent.{IsCoherent};
-ghost use Rattle.logged_volume.specs.Agreement.{Agree, AreMadeAlike, AreStep, KeepsCommon};
-ghost use Rattle.logged_volume.specs.LogStep.{log_step};
-ghost use Rattle.logged_volume.specs.Rules.{RoomNumbers, commit_reason};
+ghost use Rattle.logged_volume.specs.Agreement.{Agree, AreMadeAlike, KeepsCommon};
+ghost use Rattle.logged_volume.specs.Laws.{AfterStep, StepKeeps};
 
 /// Law: from a coherent current and a coherent logged volume that agree, a log step in place of which no full commit is
 /// made leaves a coherent logged volume that agrees with the current one, and keeps what the two had in common (own).
 pub fn log_steps_keep_coherence()
-    ensures { (current logged : Subvolume) (target : ℕ) (datasync : Bool) (room : RoomNumbers) → AreStep current logged target → commit_reason current logged target datasync room ≡ None → IsCoherent (log_step current logged target datasync) × Agree current (log_step current logged target datasync) × KeepsCommon current logged (log_step current logged target datasync) }
+    ensures coherent { AfterStep (λ current logged next. IsCoherent next) }
+    ensures agrees { AfterStep (λ current logged next. Agree current next) }
+    ensures common { AfterStep KeepsCommon }
 {}
 
 /// Law: a subvolume that agrees with the current and with the logged volume agrees with what a log step leaves; and so for
 /// what inodes were made as (own).
 pub fn log_steps_keep_agreement()
-    ensures agree { (third current logged : Subvolume) (target : ℕ) (datasync : Bool) → AreStep current logged target → Agree third current → Agree third logged → Agree third (log_step current logged target datasync) }
-    ensures alike { (third current logged : Subvolume) (target : ℕ) (datasync : Bool) → AreStep current logged target → AreMadeAlike third current → AreMadeAlike third logged → AreMadeAlike third (log_step current logged target datasync) }
+    ensures agree { StepKeeps Agree }
+    ensures alike { StepKeeps AreMadeAlike }
 {}
