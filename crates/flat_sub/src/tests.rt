@@ -20,22 +20,33 @@ fn path(alloc: Global, names: &[&[u8]]) -> Result<Path, Fail> {
 }
 
 #[test]
-fn names_are_made_and_move(rt: HostRuntime) -> Result<(), Fail> {
+fn names_are_made_and_go(rt: HostRuntime) -> Result<(), Fail> {
     let alloc = rt.alloc();
     let mut sub = FlatSub::bare(alloc)?;
     let (a, b) = (path(alloc, &[b"a"])?, path(alloc, &[b"b"])?);
-    for kind in [Kind::File, Kind::Dir] {
-        let place = if kind == Kind::File { &a } else { &b };
-        let inode = Inode::new(alloc, kind, 0, Text::new(alloc, b"")?);
-        sub.make(alloc, place, inode)?;
-    }
-    assert!(rt; matches!(sub.rename(alloc, &a, &b)?, Answer::IsDir));
-    assert!(rt; matches!(sub.exchange(alloc, &a, &b)?, Answer::Plain));
-    assert!(rt; matches!(sub.rmdir(&a), Answer::Plain));
-    assert!(rt; matches!(sub.link(alloc, &b, &a)?, Answer::Plain));
-    assert!(rt; matches!(sub.unlink(&b), Answer::Plain));
-    assert!(rt; matches!(sub.lookup(&a), Answer::Number(257)));
-    assert_eq!(rt; sub.last_index, 6);
+    let file = Inode::new(alloc, Kind::File, 0, Text::new(alloc, b"")?);
+    assert!(rt; matches!(sub.make(alloc, &a, file)?, Answer::Number(257)));
+    assert!(rt; matches!(sub.link(alloc, &a, &b)?, Answer::Plain));
+    assert!(rt; matches!(sub.rmdir(&a), Answer::NotDir));
+    assert!(rt; matches!(sub.unlink(&a), Answer::Plain));
+    assert!(rt; matches!(sub.lookup(&b), Answer::Number(257)));
+    assert_eq!(rt; sub.last_index, 3);
+    Ok(())
+}
+
+#[test]
+fn names_move(rt: HostRuntime) -> Result<(), Fail> {
+    let alloc = rt.alloc();
+    let mut sub = FlatSub::bare(alloc)?;
+    let (a, d) = (path(alloc, &[b"a"])?, path(alloc, &[b"d"])?);
+    let file = Inode::new(alloc, Kind::File, 0, Text::new(alloc, b"")?);
+    sub.make(alloc, &a, file)?;
+    let dir = Inode::new(alloc, Kind::Dir, 0, Text::new(alloc, b"")?);
+    sub.make(alloc, &d, dir)?;
+    assert!(rt; matches!(sub.rename(alloc, &a, &d)?, Answer::IsDir));
+    assert!(rt; matches!(sub.exchange(alloc, &a, &d)?, Answer::Plain));
+    assert!(rt; matches!(sub.lookup(&a), Answer::Number(258)));
+    assert_eq!(rt; sub.last_index, 5);
     Ok(())
 }
 
