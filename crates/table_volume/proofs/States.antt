@@ -17,13 +17,13 @@ one_sub table state one two a b =
 one_number : (n a b : ℕ) → n ≡ a + 1 → n ≡ b + 1 → a ≡ b
 one_number n a b p q = omega (arith, p, q)
 
-pub one_ino : (table : Table) (state : SubState) (one two : RunSub) → GivesRun table state one → GivesRun table state two → one.marks.last_ino ≡ two.marks.last_ino
+pub one_ino : (table : Table) (state : SubState) (one two : RunSub) → GivesRun table state one → GivesRun table state two → one.numbers.last_ino ≡ two.numbers.last_ino
 one_ino table state one two a b =
-    one_number state.next_ino one.marks.last_ino two.marks.last_ino a.next_ino b.next_ino
+    one_number state.next_ino one.numbers.last_ino two.numbers.last_ino a.next_ino b.next_ino
 
-pub one_index : (table : Table) (state : SubState) (one two : RunSub) → GivesRun table state one → GivesRun table state two → one.marks.last_index ≡ two.marks.last_index
+pub one_index : (table : Table) (state : SubState) (one two : RunSub) → GivesRun table state one → GivesRun table state two → one.numbers.last_index ≡ two.numbers.last_index
 one_index table state one two a b =
-    one_number state.next_index one.marks.last_index two.marks.last_index a.next_index b.next_index
+    one_number state.next_index one.numbers.last_index two.numbers.last_index a.next_index b.next_index
 
 -- the subvolume of this number, where there is one, is sound
 abbrev pub IsSoundAt : RunVolume → ℕ → Type 0

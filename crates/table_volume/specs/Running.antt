@@ -18,8 +18,8 @@ pub record GivesRun (table : Table) (state : SubState) (run : RunSub) : Type 0 w
   pub gives : GivesSubvolume table state.tree run.sub
   pub current : AreCurrent table (sub_reach table state.tree)
   pub sound : IsSound run
-  pub next_ino : state.next_ino ≡ run.marks.last_ino + 1
-  pub next_index : state.next_index ≡ run.marks.last_index + 1
+  pub next_ino : state.next_ino ≡ run.numbers.last_ino + 1
+  pub next_index : state.next_index ≡ run.numbers.last_index + 1
 
 -- the subvolume's number, which is the owner of its tree ("Header": owner)
 abbrev pub id_of : SubState → ℕ

@@ -15,7 +15,7 @@ ghost use Rattle.volume_image.specs.Subvolume.{AreItemsOf, Data, entry_kind_of, 
 ghost use Rattle.table_volume.specs.Keyed.{ChangesOnly, HoldsExtents, HoldsKey, is_touched};
 
 /// Rising items are those of a subvolume exactly where under each key stands what it asks for, and the extents of each
-/// inode cover its blocks, each once (own).
+/// inode cover its blocks, each once.
 pub fn items_are_by_keys()
     ensures parts { (items : List Item) (blocks : Data) (sub : Subvolume) → ItemsRise items → AreItemsOf items blocks sub
         → (key : Key) → HoldsKey sub blocks key (data_under key items) }
@@ -25,7 +25,7 @@ pub fn items_are_by_keys()
 {}
 
 /// Where some names and the records of some inodes change alone, only the items that tell of them have to: an item that
-/// tells of none of them is still what is asked for, where it and its data stay (own).
+/// tells of none of them is still what is asked for, where it and its data stay.
 pub fn a_change_touches_few_items()
     ensures { (before after : List Item) (was is : Data) (old new : Subvolume) (names : List FlatName) (inos : List ℕ)
         → ItemsRise before → ItemsRise after → AreItemsOf before was old → ChangesOnly old new names inos
@@ -37,14 +37,14 @@ pub fn a_change_touches_few_items()
         → AreItemsOf after is new }
 {}
 
-/// A name that is added or goes is all that changes (own).
+/// A name that is added or goes is all that changes.
 pub fn a_name_changes_only()
     ensures added { (sub : Subvolume) (name : FlatName) → ChangesOnly sub (record sub { names = add_name name sub.names }) (name ∷ []) [] }
     ensures removed { (sub : Subvolume) (name : FlatName) → ChangesOnly sub (record sub { names = remove_name name sub.names }) (name ∷ []) [] }
 {}
 
 /// The record of an inode is all that changes, where a name that leads to it finds the kind that it had; and so it is
-/// where an inode goes to which no name leads (own).
+/// where an inode goes to which no name leads.
 pub fn an_inode_changes_only()
     ensures written { (sub : Subvolume) (ino : ℕ) (inode : InodeRecord)
         → ((name : FlatName) → Contains sub.names name → name.ino ≡ ino → entry_kind_of (Some inode) ≡ entry_kind_of (get sub.inodes ino))
@@ -53,7 +53,7 @@ pub fn an_inode_changes_only()
         → ChangesOnly sub (record sub { inodes = remove sub.inodes ino }) [] (ino ∷ []) }
 {}
 
-/// One change behind another changes what either changes (own).
+/// One change behind another changes what either changes.
 pub fn changes_join()
     ensures { (first middle last : Subvolume) (names more_names : List FlatName) (inos more_inos : List ℕ)
         → ChangesOnly first middle names inos → ChangesOnly middle last more_names more_inos → ChangesOnly first last (names ++ more_names) (inos ++ more_inos) }

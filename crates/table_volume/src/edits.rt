@@ -11,7 +11,7 @@ ghost use Rattle.tree_frame.specs.Frame.{IsEdit};
 ghost use Rattle.table_volume.specs.Gives.{GivesSubvolume, sub_reach, tree_data};
 
 /// An edit of a subvolume's tree is one of the subvolume: its data blocks stay as they were, and no block of the new tree
-/// is one of them (own).
+/// is one of them.
 pub fn a_tree_edit_is_of_its_subvolume()
     ensures edit { (old new : Table) (tree : Tree) (sub : Subvolume) (after : List ℕ) → GivesSubvolume old tree sub
         → IsEdit old new (tree_reach old tree) after → IsEdit old new (sub_reach old tree) (after ++ tree_data old tree) }
@@ -22,7 +22,7 @@ pub fn a_tree_edit_is_of_its_subvolume()
 {}
 
 /// An edit of a subvolume's data is one of the subvolume: the blocks of its tree stay as they were, and none of the new
-/// data blocks is one of them (own).
+/// data blocks is one of them.
 pub fn a_data_edit_is_of_its_subvolume()
     ensures edit { (old new : Table) (tree : Tree) (sub : Subvolume) (after : List ℕ) → GivesSubvolume old tree sub
         → IsEdit old new (tree_data old tree) after → IsEdit old new (sub_reach old tree) (tree_reach old tree ++ after) }

@@ -14,7 +14,7 @@ ghost use Rattle.table_volume.specs.Gives.{AreAccounted, GivesSubvolume, sub_rea
 ghost use Rattle.table_volume.specs.Running.{GiveVolume, GivesRun, id_of};
 
 /// An edit keeps what every other tree gives of which no Dirty block is one of the edited ones, as a committed tree has
-/// none: the tree gives the same subvolume, and has the same blocks (own).
+/// none: the tree gives the same subvolume, and has the same blocks.
 pub fn an_edit_keeps_another_subvolume()
     ensures gives { (old new : Table) (before after : List ℕ) (tree : Tree) (sub : Subvolume) → IsEdit old new before after → GivesSubvolume old tree sub
         → ((at : ℕ) → Contains (sub_reach old tree) at → Contains before at → (block_at old at).state ≢ Dirty) → GivesSubvolume new tree sub }
@@ -23,7 +23,7 @@ pub fn an_edit_keeps_another_subvolume()
 {}
 
 /// An edit keeps what another current state gives that has none of the edited blocks: each of its blocks stays as it was
-/// (own).
+///.
 pub fn an_edit_keeps_another_state()
     ensures gives { (old new : Table) (before after : List ℕ) (state : SubState) (run : RunSub) → IsEdit old new before after → GivesRun old state run
         → ((at : ℕ) → Contains (sub_reach old state.tree) at → Contains before at → ⊥) → GivesRun new state run }
@@ -34,7 +34,7 @@ pub fn an_edit_keeps_another_state()
 {}
 
 /// Where an edit of one subvolume's blocks makes another subvolume of it, the states give the volume with that one in its
-/// place (own).
+/// place.
 pub fn an_edit_of_one_is_of_the_volume()
     ensures { (old new : Table) (lefts rights : List SubState) (before after : SubState) (run : RunVolume) (next : RunSub)
         → GiveVolume old (lefts ++ before ∷ rights) run → IsEdit old new (sub_reach old before.tree) (sub_reach new after.tree)
@@ -42,7 +42,7 @@ pub fn an_edit_of_one_is_of_the_volume()
 {}
 
 /// An edit loses no block: where each block that has a buffer and wasn't let go is one of a list, so it is afterwards with
-/// the blocks after the edit in place of those before it (own).
+/// the blocks after the edit in place of those before it.
 pub fn an_edit_loses_no_block()
     ensures { (old new : Table) (before after reach further : List ℕ) → IsEdit old new before after → AreAccounted old reach
         → ((at : ℕ) → Contains reach at → (Contains before at → ⊥) → Contains further at) → ((at : ℕ) → Contains after at → Contains further at)

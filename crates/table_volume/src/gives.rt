@@ -15,19 +15,19 @@ ghost use Rattle.volume_image.specs.Tree.{Image, IsTree as IsTreeOn};
 ghost use Rattle.volume_image.specs.Worked.{worked_items, worked_subvolume};
 ghost use Rattle.table_volume.specs.Gives.{GivesSubvolume, sub_reach, tree_data};
 
-/// A tree gives at most one coherent subvolume (own).
+/// A tree gives at most one coherent subvolume.
 pub fn a_tree_gives_one_subvolume()
     ensures { (table : Table) (tree : Tree) (one two : Subvolume)
         → GivesSubvolume table tree one → GivesSubvolume table tree two → IsCoherent one → IsCoherent two → one ≡ two }
 {}
 
-/// Each block of a subvolume, of its tree and of its files, is taken, at an address that a volume may use (own).
+/// Each block of a subvolume, of its tree and of its files, is taken, at an address that a volume may use.
 pub fn a_subvolume_is_taken()
     ensures { (table : Table) (tree : Tree) (sub : Subvolume) → GivesSubvolume table tree sub → All (IsTaken table) (sub_reach table tree) }
 {}
 
 /// What a tree gives depends on the bytes of its blocks and of its files' alone, where each is there to be read, be it
-/// let go or not (own).
+/// let go or not.
 pub fn giving_is_by_bytes()
     ensures gives { (old new : Table) (tree : Tree) (sub : Subvolume)
         → AreReadable old new (sub_reach old tree) → GivesSubvolume old tree sub → GivesSubvolume new tree sub }
@@ -42,7 +42,7 @@ pub fn a_worked_subvolume_is_given()
         → GivesSubvolume table tree (worked_subvolume block) }
 {}
 
-/// Where what is read of blocks stays over one change of the table and over another, it stays over both (own).
+/// Where what is read of blocks stays over one change of the table and over another, it stays over both.
 pub fn readings_join()
     ensures { (old middle new : Table) (reach : List ℕ) → AreReadable old middle reach → AreReadable middle new reach → AreReadable old new reach }
 {}
