@@ -1,5 +1,5 @@
-ghost use Rattle.std.specs.Prelude.{◌≡◌, IfOk};
-ghost use Rattle.leaf_run.specs.Run.{IsRunning};
+ghost use Rattle.std.specs.Prelude.{◌≡◌, IfOk, IsTrue};
+ghost use Rattle.leaf_run.specs.Run.{IsAllowedRequest, IsRunning};
 
 use super::*;
 use blk_base::{Addr, Name, SubId, Text, is_name};
@@ -75,6 +75,17 @@ fn write(alloc: Global, name: &[u8], offset: u64, text: &[u8]) -> Result<Request
     Ok(Request::Op(Op::Write(place(alloc, name)?, offset, text)))
 }
 
+/// Whether a call may be made: of an operation in its limits, or of a sync.
+fn may_be_made(request: &Request) -> bool
+    ensures { IsTrue result → IsAllowedRequest request.now }
+{
+    match request {
+        Request::Op(op) => is_in_limits(op),
+        Request::Sync => true,
+        Request::Fsync(_) | Request::Fdatasync(_) => false,
+    }
+}
+
 /// Makes a call that may be made.
 fn call(
     alloc: Global,
@@ -85,10 +96,8 @@ fn call(
     requires { IsRunning run.old 4096 }
     ensures { IsRunning run.new 4096 }
 {
-    if let Request::Op(op) = &request {
-        if !is_in_limits(op) {
-            return Err(Fail::from("past its limits"));
-        }
+    if !may_be_made(&request) {
+        return Err(Fail::from("no such call"));
     }
     Ok(run.call(alloc, disk, &request)?)
 }
