@@ -1,3 +1,4 @@
 pub mod Gives
+pub mod Edited
 pub mod Running
 pub mod Keyed
