@@ -1,5 +1,6 @@
 //! Where a path leads.
 ghost use Rattle.std.specs.Prelude.{◌≡◌};
+ghost use Rattle.flat_model.specs.Step.{IsPath};
 ghost use Rattle.flat_model.specs.Volume.{Subvolume, is_dir_at};
 ghost use Rattle.flat_model.specs.Walk.{WalkEnd, walk};
 ghost use Rattle.tree_range.specs.Shape.{IsTree};
@@ -64,7 +65,8 @@ fn next_step<'p>(table: &BlockTable, tree: &Tree, step: Step<'p>, name: &'p [u8]
 /// Where a path leads.
 fn steps<'p>(table: &BlockTable, tree: &Tree, path: &'p Path) -> Step<'p>
     requires { IsTree table.now tree.now }
-    ensures { (sub : Subvolume) → GivesCoherent table.now tree.now sub → IsStep sub (walk sub path.now) result }
+    ensures step { (sub : Subvolume) → GivesCoherent table.now tree.now sub → IsStep sub (walk sub path.now) result }
+    ensures path { IsPath path.now }
 {
     let names: &[Name] = path.names();
     let mut step = Step::Root;
@@ -78,7 +80,8 @@ fn steps<'p>(table: &BlockTable, tree: &Tree, path: &'p Path) -> Step<'p>
 /// (after the kernel's path walk, without symlinks).
 pub fn walk<'p>(table: &BlockTable, tree: &Tree, path: &'p Path) -> End<'p>
     requires { IsTree table.now tree.now }
-    ensures { (sub : Subvolume) → GivesCoherent table.now tree.now sub → end_view result ≡ walk sub path.now }
+    ensures end { (sub : Subvolume) → GivesCoherent table.now tree.now sub → end_view result ≡ walk sub path.now }
+    ensures path { IsPath path.now }
 {
     match steps(table, tree, path) {
         Step::Root => End::Root,
