@@ -1,13 +1,9 @@
-// A library with one function.
+//! Operations on names in the tree of a subvolume.
 #![tactic(auto)]
 
-ghost use Rattle.std.specs.Prelude.{◌≡◌};
-ghost use Rattle.name_ops.specs.Echo.{echo_of};
+mod editing;
+mod finding;
+mod stub;
+mod sums;
 
-// The `ensures` clause is the contract: what `echo` returns is `echo_of` of its argument, a definition
-// in `specs/Echo.antt`, which a caller's clause can cite too.
-pub fn echo(x: usize) -> usize
-    ensures { result ≡ echo_of x }
-{
-    x
-}
+pub use finding::lookup;
