@@ -27,6 +27,11 @@ abbrev pub AreNew : List FlatName → List FlatName → Type 0
 AreNew names [] = ⊤
 AreNew names (name ∷ made) = (Contains names name → ⊥) × AreNew (add_name name names) made
 
+-- these names go, each of which is there, and then these come, of which none is there
+pub record IsChange (names : List FlatName) (gone made : List NameEntry) : Type 0 where
+  pub there : AreThere names (names_told gone)
+  pub new : AreNew (remove_names names (names_told gone)) (names_told made)
+
 -- one name after the other: each may be taken in turn, and each step leaves these names
 abbrev pub MayEach : (Subvolume → FlatName → Type 0) → (FlatName → List FlatName → List FlatName) → Subvolume → List FlatName → Type 0
 MayEach may step sub [] = ⊤

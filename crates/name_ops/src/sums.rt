@@ -13,7 +13,8 @@ use blk_base::{extref_hash, name_hash};
 /// How many bytes names have in the item of a directory and a hash ("DIR_ITEM").
 pub(crate) fn hashed_sum(entries: &[NameEntry<'_>], dir: u64, hash: u32) -> usize
     requires { IsFew entries.now }
-    ensures { result ≡ sum_by entry_length (hashed_of (names_told entries.now) dir hash) }
+    ensures sum { result ≡ sum_by entry_length (hashed_of (names_told entries.now) dir hash) }
+    ensures small { result ≤ 570 }
 {
     let mut sum = 0;
     for entry in entries {
@@ -27,7 +28,8 @@ pub(crate) fn hashed_sum(entries: &[NameEntry<'_>], dir: u64, hash: u32) -> usiz
 /// How many bytes names have in the item of the near names of an inode in a directory ("INODE_REF").
 pub(crate) fn near_sum(entries: &[NameEntry<'_>], ino: u64, dir: u64) -> usize
     requires { IsFew entries.now }
-    ensures { result ≡ sum_by ref_length (near_of (names_told entries.now) ino dir) }
+    ensures sum { result ≡ sum_by ref_length (near_of (names_told entries.now) ino dir) }
+    ensures small { result ≤ 570 }
 {
     let mut sum = 0;
     for entry in entries {
@@ -41,7 +43,8 @@ pub(crate) fn near_sum(entries: &[NameEntry<'_>], ino: u64, dir: u64) -> usize
 /// How many bytes names have in the item of the far names of an inode with a hash ("INODE_EXTREF").
 pub(crate) fn far_sum(entries: &[NameEntry<'_>], ino: u64, hash: u32) -> usize
     requires { IsFew entries.now }
-    ensures { result ≡ sum_by extref_length (far_of (names_told entries.now) ino hash) }
+    ensures sum { result ≡ sum_by extref_length (far_of (names_told entries.now) ino hash) }
+    ensures small { result ≤ 570 }
 {
     let mut sum = 0;
     for entry in entries {
