@@ -19,5 +19,3 @@ pub use laws::{leaves_fit, loans_come_back, packed_leaves_pass, places_keep_orde
 pub use leaf_mut::LeafMut;
 pub use seal::seal_block;
 
-#[cfg(test)]
-mod tests;

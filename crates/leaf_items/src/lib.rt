@@ -21,5 +21,3 @@ pub use file::{LeafFile, block_addresses, files, put_file};
 pub use names::put_names;
 pub use volume::{bare_volume, is_leaf_of};
 
-#[cfg(test)]
-mod tests;

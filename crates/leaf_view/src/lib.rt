@@ -14,5 +14,3 @@ pub use leaf::{LeafView, is_leaf_body};
 pub use node::{NodeView, is_node_body};
 pub use read::key_at;
 
-#[cfg(test)]
-mod tests;

@@ -9,5 +9,3 @@ mod node_mut;
 
 pub use node_mut::NodeMut;
 
-#[cfg(test)]
-mod tests;

@@ -22,5 +22,3 @@ pub use read::{
     node_child, node_find, node_follows, node_key, node_len,
 };
 
-#[cfg(test)]
-mod tests;

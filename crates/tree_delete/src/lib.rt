@@ -12,5 +12,3 @@ mod root;
 
 pub use root::delete;
 
-#[cfg(test)]
-mod tests;
