@@ -8,7 +8,12 @@ use std::alloc::Global;
 use std::test::Fail;
 
 /// Whether an operation on a volume gives the answer of these words.
-pub fn gives(alloc: Global, volume: &mut FlatVolume, words: &str, want: &str) -> Result<bool, Fail> {
+pub fn gives(
+    alloc: Global,
+    volume: &mut FlatVolume,
+    words: &str,
+    want: &str,
+) -> Result<bool, Fail> {
     let op = operation(alloc, words)?;
     if !is_in_limits(&op) {
         return Err(Fail::from("past its limits"));

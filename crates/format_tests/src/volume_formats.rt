@@ -119,7 +119,4 @@ fn root_items_are_written_as_the_format_says(rt: HostRuntime) {
     assert!(rt; &bytes[239..247] == [3, 0, 0, 0, 0, 0, 0, 0].as_slice());
     assert!(rt; RootItem::decode(&bytes) == Ok(item));
     assert!(rt; RootItem::decode(&[0; 438]) == Err(RootFault::Size));
-    root_reads_back();
-    super_is_block();
-    super_reads_back();
 }

@@ -129,6 +129,5 @@ fn reads_a_line(rt: HostRuntime) -> Result<(), Fail> {
     assert_eq!(rt; second.as_bytes(), b"\\b".as_slice());
     assert_eq!(rt; *offset, 7);
     assert!(rt; *text == Text::new(rt.alloc(), b"x\0")?);
-    script_law();
     Ok(())
 }

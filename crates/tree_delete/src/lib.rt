@@ -11,4 +11,3 @@ mod pair;
 mod root;
 
 pub use root::delete;
-

@@ -43,13 +43,7 @@ pub fn has_room(table: &BlockTable) -> bool
     table.spare() >= 17 && table.free_count() >= 17
 }
 
-pub fn put_one(
-    rt: &impl Abort,
-    table: &mut BlockTable,
-    tree: &mut Tree,
-    offset: u64,
-    bytes: &[u8],
-)
+pub fn put_one(rt: &impl Abort, table: &mut BlockTable, tree: &mut Tree, offset: u64, bytes: &[u8])
     requires tree { IsTree table.old tree.old }
     requires current { AreCurrent table.old (tree_reach table.old tree.old) }
     ensures tree { IsTree table.new tree.new }
