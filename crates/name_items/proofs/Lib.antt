@@ -4,3 +4,7 @@ pub mod Held
 pub mod UnderKeys
 pub mod AskedLists
 pub mod Inodes
+pub mod Adding
+pub mod Steps
+pub mod AddedName
+pub mod Found

@@ -155,6 +155,8 @@ pub record EntriesBefore (kind : ℕ) (there : Option (List ℕ)) (asked : List 
   pub held : IsHeld entry_bytes (GoodEntry kind) (unwrap_or there []) found
   pub apart : NamesDiffer found
   pub same : IsPermutation (map without_transid found) asked
+  pub spelled : (bytes : List ℕ) → there ≡ Some bytes → IsEntries kind bytes found
+  pub none : there ≡ None → found ≡ []
 
 nothing_held : (kind : ℕ) (asked : List EntryValue) → asked ≡ [] → EntriesBefore kind None asked
 nothing_held kind asked none = record {
@@ -162,6 +164,8 @@ nothing_held kind asked none = record {
   held = record { spelled = refl; good = tt };
   apart = λ i j a b l s t. absurd (some_none a (sym s));
   same = subst (λ (l : List EntryValue). IsPermutation [] l) (sym none) (IsPermutation-refl []);
+  spelled = λ b e. absurd (some_none b (sym e));
+  none = λ e. refl;
 }
 
 entries_held : (kind : ℕ) (bytes : List ℕ) (asked : List EntryValue) → HasEntries kind bytes asked → EntriesBefore kind (Some bytes) asked
@@ -174,22 +178,24 @@ entries_held kind bytes asked has = record {
   };
   apart = has.spelled.once;
   same = has.same;
+  spelled = λ b e. subst (λ (l : List ℕ). IsEntries kind l has.found) (some_same bytes b e) has.spelled;
+  none = λ e. absurd (some_none bytes e);
+}
+
+pub is_entries : (kind : ℕ) (bytes : List ℕ) (found : List EntryValue) → found ≢ [] → IsHeld entry_bytes (GoodEntry kind) bytes found → NamesDiffer found → (kind ≡ dir_index → length found ≡ 1) → IsEntries kind bytes found
+is_entries kind bytes found some held apart single = record {
+  some = some;
+  spelled = held.spelled;
+  fields = all_weaker (GoodEntry kind) EntryFits (λ e g. g.fits) found held.good;
+  names = all_weaker (GoodEntry kind) (λ (e : EntryValue). IsName e.name) (λ e g. g.name) found held.good;
+  kinds = all_weaker (GoodEntry kind) (IsEntryKind kind) (λ e g. g.kind_is) found held.good;
+  once = apart;
+  single = single;
 }
 
 has_held : (kind : ℕ) (bytes : List ℕ) (found asked : List EntryValue) → found ≢ [] → IsHeld entry_bytes (GoodEntry kind) bytes found → NamesDiffer found → (kind ≡ dir_index → length found ≡ 1) → IsPermutation (map without_transid found) asked → HasEntries kind bytes asked
-has_held kind bytes found asked some held apart single same = record {
-  found = found;
-  spelled = record {
-    some = some;
-    spelled = held.spelled;
-    fields = all_weaker (GoodEntry kind) EntryFits (λ e g. g.fits) found held.good;
-    names = all_weaker (GoodEntry kind) (λ (e : EntryValue). IsName e.name) (λ e g. g.name) found held.good;
-    kinds = all_weaker (GoodEntry kind) (IsEntryKind kind) (λ e g. g.kind_is) found held.good;
-    once = apart;
-    single = single;
-  };
-  same = same;
-}
+has_held kind bytes found asked some held apart single same =
+    record { found = found; spelled = is_entries kind bytes found some held apart single; same = same }
 
 mapped_long : (found asked : List EntryValue) → IsPermutation (map without_transid found) asked → length asked ≡ length found
 mapped_long found asked same = length_permutation (map without_transid found) asked same ∙ length-map found without_transid

@@ -23,11 +23,14 @@ abbrev pub names_size : Subvolume → ℕ → ℕ
 names_size sub dir = 2 * sum_by (λ (name : FlatName). length name.bytes) (entries_of sub.names dir)
 
 -- A name may be added to a subvolume: its inode is there and isn't the root directory, its directory is there, no name of this
--- has its bytes or its index, and each item that gets an entry keeps within a leaf ("Leaf Node": item size); the number of
--- the inode's names and the directory's size keep within their fields ("INODE_ITEM": nlink, size).
+-- has its bytes or its index, and each item that gets an entry keeps within a leaf ("Leaf Node": item size); all numbers, that of
+-- the inode's names and the directory's size among them, keep within their fields ("INODE_ITEM": nlink, size).
 pub record MayAddName (sub : Subvolume) (name : FlatName) : Type 0 where
   pub in_order : IsTrue (is_name_set sub.names)
   pub is_name : IsName name.bytes
+  pub index : name.index < 2 ^ 64
+  pub ino_number : name.ino < 2 ^ 64
+  pub dir_number : name.dir < 2 ^ 64
   pub not_root : name.ino ≢ 256
   pub inode : InodeRecord
   pub inode_there : get sub.inodes name.ino ≡ Some inode
@@ -46,6 +49,9 @@ pub record MayAddName (sub : Subvolume) (name : FlatName) : Type 0 where
 pub record MayRemoveName (sub : Subvolume) (name : FlatName) : Type 0 where
   pub in_order : IsTrue (is_name_set sub.names)
   pub is_name : IsName name.bytes
+  pub index : name.index < 2 ^ 64
+  pub ino_number : name.ino < 2 ^ 64
+  pub dir_number : name.dir < 2 ^ 64
   pub not_root : name.ino ≢ 256
   pub there : Contains sub.names name
   pub inode : InodeRecord

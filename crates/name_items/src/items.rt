@@ -111,24 +111,6 @@ pub(crate) fn add_ref(table: &mut BlockTable, tree: &mut Tree, name: &NameEntry<
     }
 }
 
-/// Puts a name's entry into the items of its directory, by way of these bytes, 30 more than it has.
-fn add_entries_by(
-    table: &mut BlockTable,
-    tree: &mut Tree,
-    name: &NameEntry<'_>,
-    bytes: &[u8],
-)
-    requires tree { IsTree table.old tree.old }
-    requires current { AreCurrent table.old (tree_reach table.old tree.old) }
-    requires short { length (bytes_under (key_hashed (name_of name.now)) (tree_items table.old tree.old)) + length bytes.now ≤ 3970 }
-    requires spare { 34 ≤ table.old.spare }
-    requires free { 34 ≤ free_blocks table.old }
-    ensures { AddsEntries table.old table.new tree.old tree.new (name_of name.now) bytes.now }
-{
-    append_bytes(table, tree, hashed_key(name), bytes);
-    write_item(table, tree, indexed_key(name), bytes);
-}
-
 /// Writes a name's entry, which has 30 bytes more than the name ("DIR_ITEM" of the on-disk format).
 fn put_name_entry(name: &NameEntry<'_>, kind: u8, transid: u64, into: &mut [u8])
     requires is_name { IsName name.now.bytes.now }
@@ -150,6 +132,30 @@ fn put_name_entry(name: &NameEntry<'_>, kind: u8, transid: u64, into: &mut [u8])
     put_entry(&entry, into);
 }
 
+/// Puts a name's entry into the items of its directory, by way of these bytes, 30 more than it has.
+fn add_entries_by(
+    table: &mut BlockTable,
+    tree: &mut Tree,
+    name: &NameEntry<'_>,
+    kind: u8,
+    transid: u64,
+    bytes: &mut [u8],
+)
+    requires tree { IsTree table.old tree.old }
+    requires current { AreCurrent table.old (tree_reach table.old tree.old) }
+    requires is_name { IsName name.now.bytes.now }
+    requires kind_is { IsKindOfEntry kind }
+    requires room { length bytes.old ≡ 30 + length name.now.bytes.now }
+    requires short { length (bytes_under (key_hashed (name_of name.now)) (tree_items table.old tree.old)) + (30 + length name.now.bytes.now) ≤ 3970 }
+    requires spare { 34 ≤ table.old.spare }
+    requires free { 34 ≤ free_blocks table.old }
+    ensures { AddsEntries table.old table.new tree.old tree.new (name_of name.now) (entry_bytes (made_entry (name_of name.now) kind transid)) }
+{
+    put_name_entry(name, kind, transid, bytes);
+    append_bytes(table, tree, hashed_key(name), bytes);
+    write_item(table, tree, indexed_key(name), bytes);
+}
+
 /// Puts a name's entry, with its inode's kind and this transaction, into the items of its directory.
 pub(crate) fn add_entries(
     table: &mut BlockTable,
@@ -165,10 +171,10 @@ pub(crate) fn add_entries(
     requires short { length (bytes_under (key_hashed (name_of name.now)) (tree_items table.old tree.old)) + (30 + length name.now.bytes.now) ≤ 3970 }
     requires spare { 34 ≤ table.old.spare }
     requires free { 34 ≤ free_blocks table.old }
-    ensures { AddsEntries table.old table.new tree.old tree.new (name_of name.now) (entry_bytes (made_entry (name_of name.now) kind transid)) }
+    ensures edits { AddsEntries table.old table.new tree.old tree.new (name_of name.now) (entry_bytes (made_entry (name_of name.now) kind transid)) }
+    ensures fits { transid < 2 ^ 64 }
 {
     let mut bytes = [0; 285];
     let end = 30 + name.bytes.len();
-    put_name_entry(name, kind, transid, &mut bytes[..end]);
-    add_entries_by(table, tree, name, &bytes[..end]);
+    add_entries_by(table, tree, name, kind, transid, &mut bytes[..end]);
 }
