@@ -12,7 +12,7 @@ use Rattle.flat_model.specs.Operations.{add_names, has_room_near, is_crowded}
 use Rattle.flat_model.specs.Records.{DirRecord, InodeRecord, FileInode, DirInode, LinkInode, is_dir_record}
 use Rattle.flat_model.specs.Volume.{Subvolume, is_dir_at, is_dir_there}
 use Rattle.flat_model.proofs.Ways.{dir_record}
-use Rattle.name_ops.specs.Names.{MayAddName, names_size}
+use Rattle.name_items.specs.Names.{MayAddName, names_size}
 use Rattle.name_ops.proofs.Totals.{total_made, total_one}
 
 -- a directory's record

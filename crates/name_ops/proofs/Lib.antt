@@ -1,5 +1,6 @@
 pub mod Stages
 pub mod Adding
 pub mod Answered
+pub mod Bounds
 pub mod Linked
 pub mod Totals

@@ -11,9 +11,9 @@ use Rattle.table_volume.specs.Edited.{Makes}
 use Rattle.table_volume.specs.Gives.{GivesSubvolume, sub_reach}
 use Rattle.table_volume.proofs.SubEdits.{sub_joined, sub_more, sub_nothing}
 use Rattle.name_ops.specs.Changes.{MayEach, names_told, with_names}
-use Rattle.name_ops.specs.Names.{name_of}
+use Rattle.name_items.specs.Names.{name_of}
 use Rattle.name_ops.specs.Operated.{HasRoom}
-use Rattle.name_ops.specs.declared.stub.NameEntry.{NameEntry}
+use Rattle.name_items.specs.declared.entry.NameEntry.{NameEntry}
 
 -- one edit behind another
 pub makes_joined : (old mid new : Table) (a b c : SubState) (n m : ℕ) (one two : Subvolume) → Makes old mid a b n one → Makes mid new b c m two → Makes old new a c (n + m) two

@@ -15,10 +15,10 @@ module _ (f : FlatName → ℕ) (p : FlatName → Bool) where
   abbrev pub total : List FlatName → ℕ
   total names = sum_by f (filter p names)
 
-  abbrev share : FlatName → ℕ
+  abbrev pub share : FlatName → ℕ
   share name = cond (p name) (f name) 0
 
-  total_cons : (name : FlatName) (names : List FlatName) → total (name ∷ names) ≡ share name + total names
+  pub total_cons : (name : FlatName) (names : List FlatName) → total (name ∷ names) ≡ share name + total names
   total_cons name names =
       elim (p name) as (λ b. sum_by f (cond b (name ∷ filter p names) (filter p names)) ≡ cond b (f name) 0 + sum_by f (filter p names)) [
         | true ↦ sum_by-cons f name (filter p names)

@@ -6,7 +6,6 @@ mod editing;
 mod finding;
 mod linking;
 mod refusing;
-mod stub;
 mod sums;
 
 pub use finding::lookup;

@@ -2,8 +2,8 @@ use Rattle.std.proofs.Common.{List, refl, sym, ap, ◌∙◌, subst}
 use Rattle.std.proofs.lemmas.List.{take_all}
 use Rattle.flat_model.specs.Names.{add_name}
 use Rattle.flat_model.specs.Volume.{Subvolume}
-use Rattle.name_ops.specs.Names.{MayAddName}
-use Rattle.name_ops.specs.declared.stub.NameEntry.{NameEntry}
+use Rattle.name_items.specs.Names.{MayAddName}
+use Rattle.name_items.specs.declared.entry.NameEntry.{NameEntry}
 use Rattle.name_ops.proofs.Stages.{made_all, stage_first, stage_may, stage_next, stage_room}
 use Rattle.name_ops.proofs.editing.add_names.Goals as goal
 
