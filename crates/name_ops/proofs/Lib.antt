@@ -3,4 +3,5 @@ pub mod Adding
 pub mod Answered
 pub mod Bounds
 pub mod Linked
+pub mod Made
 pub mod Totals

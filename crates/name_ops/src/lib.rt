@@ -5,8 +5,10 @@ mod deciding;
 mod editing;
 mod finding;
 mod linking;
+mod making;
 mod refusing;
 mod sums;
 
 pub use finding::lookup;
 pub use linking::link;
+pub use making::{create, mkdir};
