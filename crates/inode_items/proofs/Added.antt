@@ -1,21 +1,20 @@
 -- A subvolume with one inode more.
-use Rattle.std.proofs.Common.{◌≡◌, ◌≢◌, ◌⊎◌, ◌∙◌, ◌||◌, ◌&&◌, ◌*◌, ℕ, Bool, true, false, List, [], ◌∷◌, Contains, IsPermutation, Option, Some, None, length, map, nat_eq, refl, sym, ap, subst, inl, inr, arith}
-use Rattle.std.specs.Prelude.{IsSome, filter}
-use Rattle.std.specs.List.{list_any, sum_by}
-use Rattle.std.specs.FinMap.{empty, entries, get, get-empty, insert, len, len-empty}
+use Rattle.std.proofs.Common.{◌≡◌, ◌≢◌, ◌⊎◌, ◌∙◌, ◌||◌, ◌&&◌, ◌*◌, ℕ, Bool, true, false, List, [], ◌∷◌, Contains, Option, Some, None, length, map, nat_eq, refl, sym, ap, subst, inl, inr, arith}
+use Rattle.std.specs.Prelude.{filter}
+use Rattle.std.specs.List.{sum_by}
+use Rattle.std.specs.FinMap.{empty, entries, get, get-empty, insert, len-empty}
 use Rattle.std.specs.Ordering.{nat_cmp}
-use Rattle.std.proofs.lemmas.Bool.{cases_eq, eq-eqb, eqb-true, true≢false, and_from, and_parts}
+use Rattle.std.proofs.lemmas.Bool.{cases_eq, eq-eqb, eqb-true, true≢false, and_parts}
 use Rattle.std.proofs.lemmas.List.Sorted.{length_permutation}
 use Rattle.blk_base.specs.declared.key.Key.{Key}
 use Rattle.blk_base.specs.Crc.{name_hash_of}
 use Rattle.blk_base.specs.Entries.{EntryValue}
 use Rattle.blk_base.specs.Items.{InodeValue, IsInode, dir_mode, file_mode, link_mode}
 use Rattle.blk_base.specs.Keys.{extent_data, inode_item, xattr_item}
-use Rattle.blk_base.specs.Leaf.{Item}
 use Rattle.block_table.specs.declared.tree.Tree.{Tree}
 use Rattle.block_table.specs.Table.{Table}
 use Rattle.tree_range.specs.Between.{data_under}
-use Rattle.tree_range.specs.Shape.{IsTree, tree_items}
+use Rattle.tree_range.specs.Shape.{tree_items}
 use Rattle.flat_model.specs.Names.{FlatName, entries_of, leads_to, links_of, names_of, stands_in}
 use Rattle.flat_model.specs.Operations.{with_record}
 use Rattle.flat_model.specs.Records.{Blocks, DirInode, FileInode, FileRecord, InodeRecord, LinkInode, LinkRecord, attributes_of, new_dir, new_file}
@@ -26,7 +25,6 @@ use Rattle.volume_image.proofs.Asked.{asked_attributes, asked_extent}
 use Rattle.volume_image.proofs.Lists.{entries_empty, in_cons, in_nothing}
 use Rattle.volume_image.proofs.Members.{in_filter}
 use Rattle.volume_image.proofs.Reaches.{head_in}
-use Rattle.table_volume.specs.Edited.{BearGeneration}
 use Rattle.table_volume.specs.Gives.{GivesSubvolume, data_in, tree_data}
 use Rattle.table_volume.specs.TreeEdit.{IsTreeEdit}
 use Rattle.table_volume.proofs.SubEdits.{tree_gives}
@@ -149,17 +147,17 @@ module _ (sub : Subvolume) (blocks : Data) (ino : ℕ) (inode : InodeRecord) (pl
   attribute_holds key kind is = record {
     only = λ bytes e. absurd cc;
     all = λ asks.
-    let none : attributes_there (get (with_record sub ino inode).inodes key.objectid) ≡ [] = ap attributes_there (here key is) ∙ ap entries plain.attributes ∙ entries_empty _ in
-    absurd (attributes_ask (with_record sub ino inode) key kind asks
-    (ap (λ (l : List (List ℕ × List ℕ)). map attribute_entry (filter (λ attribute. nat_eq (name_hash_of attribute.0) key.offset) l)) none));
+        let none : attributes_there (get (with_record sub ino inode).inodes key.objectid) ≡ [] = ap attributes_there (here key is) ∙ ap entries plain.attributes ∙ entries_empty _ in
+        absurd (attributes_ask (with_record sub ino inode) key kind asks
+        (ap (λ (l : List (List ℕ × List ℕ)). map attribute_entry (filter (λ attribute. nat_eq (name_hash_of attribute.0) key.offset) l)) none));
   }
 
   pub target_holds : (key : Key) → key.kind ≡ extent_data → key.objectid ≡ ino → HoldsKey (with_record sub ino inode) blocks key None
   target_holds key kind is = record {
     only = λ bytes e. absurd cc;
     all = λ asks.
-    let link = target_asks (with_record sub ino inode) key kind asks in
-    absurd (plain.no_link link.0 (some_same inode (LinkInode link.0) (sym (here key is) ∙ link.1)));
+        let link = target_asks (with_record sub ino inode) key kind asks in
+        absurd (plain.no_link link.0 (some_same inode (LinkInode link.0) (sym (here key is) ∙ link.1)));
   }
 
 -- a new inode is plain, and its item says it
@@ -265,10 +263,10 @@ module _ (old new : Table) (before after : Tree) (sub : Subvolume) (ino : ℕ) (
   extents i c = elim (in_cons ino i [] c) [
     | inl same ↦ subst (λ (i : ℕ). HoldsExtents (with_record sub ino inode) (tree_items new after) i) same (record {
       covered = λ file number block there has.
-      let none = h.plain.no_blocks file (some_same inode (FileInode file) (sym (get_insert_same sub.inodes ino inode) ∙ there)) in
-      absurd (some_none block (sym has ∙ ap (λ (b : Blocks). get b number) none ∙ get-empty _ number));
+          let none = h.plain.no_blocks file (some_same inode (FileInode file) (sym (get_insert_same sub.inodes ino inode) ∙ there)) in
+          absurd (some_none block (sym has ∙ ap (λ (b : Blocks). get b number) none ∙ get-empty _ number));
       apart = λ one two first second a b less.
-      absurd (some_none first (sym (found_under (tree_items new after) (make_key ino extent_data one) first added_edit.tree.order a) ∙ no_extent_now (make_key ino extent_data one) refl refl));
+          absurd (some_none first (sym (found_under (tree_items new after) (make_key ino extent_data one) first added_edit.tree.order a) ∙ no_extent_now (make_key ino extent_data one) refl refl));
     })
     | inr none ↦ absurd (in_nothing i none)
   ]

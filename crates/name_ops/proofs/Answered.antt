@@ -1,10 +1,9 @@
 -- What an operation comes to, by its rows.
-use Rattle.std.proofs.Common.{◌≡◌, ◌≤◌, ℕ, Bool, true, false, cond, List, [], ◌∷◌, ◌++◌, Option, Some, None, refl, sym, ap, subst, ◌∙◌, arith}
+use Rattle.std.proofs.Common.{◌≡◌, ℕ, Bool, true, false, cond, List, [], ◌∷◌, ◌++◌, Option, Some, None, refl, sym, ap, subst, ◌∙◌, arith}
 use Rattle.block_table.specs.declared.tree.SubState.{SubState}
 use Rattle.block_table.specs.Table.{Table}
 use Rattle.flat_model.specs.declared.answer.Answer.{Answer}
 use Rattle.flat_model.specs.Operations.{Outcome, first_answer, unchanged, unless_refused}
-use Rattle.flat_model.specs.Refusal.{is_refusal}
 use Rattle.flat_model.specs.Volume.{RunSub, Subvolume}
 use Rattle.table_volume.specs.Edited.{Makes}
 use Rattle.table_volume.specs.Running.{GivesRun}

@@ -1,14 +1,13 @@
 -- The names in a directory have few bytes, since those of each hash do.
-use Rattle.std.proofs.Common.{◌≡◌, ◌≤◌, ◌<◌, ◌+◌, ◌*◌, ◌^◌, ◌&&◌, ◌⊎◌, ℕ, zero, suc, Bool, true, false, cond, List, [], ◌∷◌, Contains, filter, length, nat_eq, nat_lt, refl, sym, ap, subst, ◌∙◌, arith, inl, inr}
-use Rattle.std.specs.Prelude.{All}
+use Rattle.std.proofs.Common.{◌≡◌, ◌≤◌, ◌<◌, ◌+◌, ◌*◌, ◌^◌, ◌&&◌, ◌⊎◌, ℕ, zero, suc, Bool, true, false, cond, List, [], ◌∷◌, Contains, filter, length, nat_eq, nat_lt, refl, sym, ap, arith, inl, inr}
 use Rattle.std.specs.List.{sum_by}
 use Rattle.std.proofs.lemmas.List.Sums.{sum_by-cons}
-use Rattle.std.proofs.lemmas.Bool.{and_from, and_parts, cases_order, eq-eqb, eqb-true, lt-ltb, le-ltb, ltb-true, ne_eqb}
+use Rattle.std.proofs.lemmas.Bool.{cases_order, eq-eqb, lt-ltb, le-ltb, ne_eqb}
 use Rattle.blk_base.specs.Crc.{name_hash_of}
 use Rattle.blk_base.proofs.CrcLemmas.{name_hash_of-fits}
-use Rattle.flat_model.specs.Coherent.{IsCoherent, AreBytes}
+use Rattle.flat_model.specs.Coherent.{IsCoherent}
 use Rattle.flat_model.specs.Lengths.{dir_item_length, entry_length, most_item_bytes}
-use Rattle.flat_model.specs.Names.{FlatName, entries_of, is_hashed_in, stands_in}
+use Rattle.flat_model.specs.Names.{FlatName, is_hashed_in, stands_in}
 use Rattle.flat_model.specs.Volume.{Subvolume}
 use Rattle.volume_image.proofs.Reaches.{head_in, tail_in}
 use Rattle.name_items.specs.Names.{names_size}
@@ -66,7 +65,7 @@ names_within dir most (name ∷ names) each =
     let here = lt-ltb (name_hash_of name.bytes) most (each name (head_in name names)) in
     let one = total_cons entry_length (below dir most) name names in
     elim (nat_eq name.dir dir) as (λ b. cond (b && nat_lt (name_hash_of name.bytes) most) (entry_length name) 0 + total entry_length (below dir most) names ≡ total entry_length (below dir most) (name ∷ names)
-      → sum_by (λ (name : FlatName). length name.bytes) (cond b (name ∷ filter (stands_in dir) names) (filter (stands_in dir) names)) ≤ total entry_length (below dir most) (name ∷ names)) [
+    → sum_by (λ (name : FlatName). length name.bytes) (cond b (name ∷ filter (stands_in dir) names) (filter (stands_in dir) names)) ≤ total entry_length (below dir most) (name ∷ names)) [
       | true ↦ λ e.
           let head : cond (nat_lt (name_hash_of name.bytes) most) (entry_length name) 0 ≡ entry_length name = ap (λ (b : Bool). cond b (entry_length name) 0) here in
           let sum = sum_by-cons (λ (name : FlatName). length name.bytes) name (filter (stands_in dir) names) in

@@ -1,5 +1,5 @@
 -- A further name.
-use Rattle.std.proofs.Common.{◌≡◌, ◌≢◌, ◌≤◌, ◌<◌, ◌+◌, ◌^◌, ℕ, Bool, true, false, List, [], ◌∷◌, Contains, Option, Some, None, refl, sym, ap, subst, ◌∙◌, arith}
+use Rattle.std.proofs.Common.{◌≡◌, ◌≢◌, ◌<◌, ◌+◌, ◌^◌, ℕ, Bool, true, false, List, [], ◌∷◌, Contains, Option, Some, None, refl, sym, ap, subst, ◌∙◌, arith}
 use Rattle.std.specs.Option.{unwrap_or}
 use Rattle.std.specs.FinMap.{get}
 use Rattle.std.proofs.lemmas.Bool.{leb-false, or_parts}
@@ -8,14 +8,14 @@ use Rattle.flat_model.specs.declared.answer.Answer.TheVariants.{Collide, Plain}
 use Rattle.flat_model.specs.declared.op.Op.TheVariants.{Link}
 use Rattle.block_table.specs.declared.tree.SubState.{SubState}
 use Rattle.block_table.specs.Table.{Table}
-use Rattle.flat_model.specs.Coherent.{IsNameBytes, most_links}
-use Rattle.flat_model.specs.Names.{FlatName, add_name, is_in_slot, links_of}
+use Rattle.flat_model.specs.Coherent.{IsNameBytes}
+use Rattle.flat_model.specs.Names.{FlatName, add_name, is_in_slot}
 use Rattle.flat_model.specs.Operations.{Outcome, do_collide, first_answer, link, link_done, link_rows, new_name, unchanged, unless_refused}
 use Rattle.flat_model.specs.Records.{InodeRecord}
 use Rattle.flat_model.specs.Running.{IsSound}
 use Rattle.flat_model.specs.Step.{AreNextIndexes, IsPath}
 use Rattle.flat_model.specs.Volume.{RunSub, Subvolume}
-use Rattle.flat_model.specs.Walk.{WalkEnd, AtSlot, ino_at, is_absent, is_blocked, is_root, walk}
+use Rattle.flat_model.specs.Walk.{WalkEnd, AtSlot, ino_at, walk}
 use Rattle.flat_model.proofs.Choices.{next_index_first}
 use Rattle.flat_model.proofs.Fresh.{NoneHolds, index_is_fresh, no_answer}
 use Rattle.flat_model.proofs.OneName.{held_slot, last_is_name, not_crowded_one, slot_is_free}

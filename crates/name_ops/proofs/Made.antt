@@ -1,5 +1,5 @@
 -- A new inode with its first name.
-use Rattle.std.proofs.Common.{◌≡◌, ◌≢◌, ◌≤◌, ◌<◌, ◌+◌, ◌^◌, ℕ, Bool, true, false, List, [], ◌∷◌, Contains, Option, Some, None, refl, sym, ap, subst, ◌∙◌, arith}
+use Rattle.std.proofs.Common.{◌≡◌, ◌≢◌, ◌<◌, ◌+◌, ◌^◌, ℕ, Bool, true, false, List, [], ◌∷◌, Contains, Option, Some, None, refl, sym, ap, subst, ◌∙◌, arith}
 use Rattle.std.specs.FinMap.{get, insert}
 use Rattle.std.proofs.lemmas.Bool.{leb-false, or_parts}
 use Rattle.block_table.specs.declared.tree.SubState.{SubState}
@@ -7,13 +7,13 @@ use Rattle.block_table.specs.Table.{Table}
 use Rattle.flat_model.specs.declared.answer.Answer.{Answer}
 use Rattle.flat_model.specs.declared.answer.Answer.TheVariants.{Collide, Number}
 use Rattle.flat_model.specs.declared.op.Op.TheVariants.{Create, Mkdir}
-use Rattle.flat_model.specs.Coherent.{IsNameBytes, most_links}
-use Rattle.flat_model.specs.Names.{FlatName, add_name, links_of}
+use Rattle.flat_model.specs.Coherent.{IsNameBytes}
+use Rattle.flat_model.specs.Names.{FlatName, add_name}
 use Rattle.flat_model.specs.Operations.{Outcome, do_collide, first_answer, make, make_done, make_rows, new_name, unchanged, unless_refused, with_record}
 use Rattle.flat_model.specs.Records.{InodeRecord}
 use Rattle.flat_model.specs.Running.{IsSound}
 use Rattle.flat_model.specs.Step.{AreNextIndexes, IsPath}
-use Rattle.flat_model.specs.Volume.{RunSub, Subvolume, is_dir_at, is_dir_there}
+use Rattle.flat_model.specs.Volume.{RunSub, Subvolume, is_dir_there}
 use Rattle.flat_model.specs.Walk.{WalkEnd, AtSlot, walk}
 use Rattle.flat_model.proofs.Choices.{next_index_first}
 use Rattle.flat_model.proofs.Fresh.{NoneHolds, index_is_fresh, no_answer, root_below}

@@ -10,11 +10,11 @@ ghost use Rattle.name_items.specs.Names.{name_of};
 ghost use Rattle.name_ops.specs.Changes.{IsChange, names_told, remove_names};
 ghost use Rattle.name_ops.specs.Sums.{IsFew};
 
-use name_items::NameEntry;
 use crate::sums::{far_sum, hashed_sum, near_sum};
 use blk_base::format::MOST_ITEM_BYTES;
 use blk_base::{extref_hash, name_hash};
 use block_table::{BlockTable, Tree};
+use name_items::NameEntry;
 use name_walk::{dir_item_len, extref_item_len, ref_item_len};
 
 /// The most bytes of an INODE_REF to which a name is added.

@@ -8,8 +8,8 @@ ghost use Rattle.table_volume.specs.Gives.{GivesSubvolume, sub_reach};
 ghost use Rattle.name_ops.specs.Changes.{MayCome, names_told, with_names};
 ghost use Rattle.name_ops.specs.Operated.{HasRoom};
 
-use name_items::{NameEntry, add_name};
 use block_table::{BlockTable, SubState};
+use name_items::{NameEntry, add_name};
 
 /// Puts names into a subvolume.
 pub(crate) fn add_names(table: &mut BlockTable, sub: &mut SubState, made: &[NameEntry<'_>])

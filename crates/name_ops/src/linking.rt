@@ -17,10 +17,10 @@ ghost use Rattle.flat_model.specs.Step.{IsPath};
 use crate::deciding::{do_collide, has_room_near};
 use crate::editing::add_names;
 use crate::refusing::link_refusal;
-use name_items::NameEntry;
 use blk_base::Ino;
 use block_table::{BlockTable, SubState, Tree};
 use flat_model::{Answer, Path};
+use name_items::NameEntry;
 use name_walk::{End, walk};
 
 /// A new name in a slot, near where it may be once other names are gone.

@@ -1,9 +1,7 @@
 use Rattle.std.proofs.Common.{ℕ, List, refl}
 use Rattle.blk_base.specs.Items.{InodeValue, inode_bytes}
-use Rattle.block_table.specs.declared.state.SlotState.TheVariants.{LetGo}
 use Rattle.block_table.specs.declared.tree.SubState.{SubState}
 use Rattle.block_table.specs.declared.tree.Tree.{Tree}
-use Rattle.block_table.specs.TreeIn.{block_at}
 use Rattle.flat_model.specs.Records.{InodeRecord}
 use Rattle.item_inode.specs.Inode.{inode_view}
 use Rattle.tree_range.specs.Shape.{tree_items}

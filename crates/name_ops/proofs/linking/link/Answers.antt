@@ -1,5 +1,4 @@
-use Rattle.std.proofs.Common.{◌≡◌, List, Bool, [], ◌∷◌, Option, Some, None, refl, sym, ap, subst, ◌∙◌}
-use Rattle.flat_model.specs.declared.answer.Answer.{Answer}
+use Rattle.std.proofs.Common.{◌≡◌, [], ◌∷◌, Some, None, refl, sym, ap, subst, ◌∙◌}
 use Rattle.flat_model.specs.declared.answer.Answer.TheVariants.{Collide}
 use Rattle.flat_model.specs.Operations.{do_collide, first_answer, link, link_done, link_rows, new_name}
 use Rattle.flat_model.specs.Walk.{WalkEnd, ino_at, walk}

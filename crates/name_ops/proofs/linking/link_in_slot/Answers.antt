@@ -1,17 +1,14 @@
-use Rattle.std.proofs.Common.{◌≡◌, ◌≤◌, ℕ, List, [], ◌∷◌, false, true, length, refl, sym, ap, subst, ◌∙◌, arith}
+use Rattle.std.proofs.Common.{◌≡◌, ◌≤◌, [], ◌∷◌, false, true, length, sym, ap, subst, ◌∙◌, arith}
 use Rattle.std.proofs.lemmas.List.Elements.{All-cons, All-nil}
-use Rattle.block_table.specs.declared.tree.SubState.{SubState}
-use Rattle.block_table.specs.Table.{Table}
 use Rattle.flat_model.specs.Names.{FlatName, add_name}
 use Rattle.flat_model.specs.Operations.{do_collide}
-use Rattle.flat_model.specs.Volume.{Subvolume}
 use Rattle.table_volume.specs.Edited.{Makes}
 use Rattle.name_walk.specs.Ends.{end_view}
 use Rattle.name_walk.specs.Given.{GivesCoherent}
 use Rattle.name_items.specs.Names.{name_of}
 use Rattle.name_items.specs.declared.entry.NameEntry.{NameEntry}
 use Rattle.name_ops.specs.Changes.{with_names}
-use Rattle.name_ops.proofs.Linked.{entry_linked, link_bytes, link_collides, link_done_so, link_not_root, linked, linked_may, linked_new}
+use Rattle.name_ops.proofs.Linked.{entry_linked, link_bytes, link_collides, link_done_so, link_not_root, linked_may, linked_new}
 use Rattle.name_ops.proofs.linking.link_in_slot.Goals as goal
 
 pub new_entry-requires-clause-given : goal.new_entry-requires-clause-given
@@ -33,9 +30,11 @@ pub do_collide-requires-clause-given : goal.do_collide-requires-clause-given
 do_collide-requires-clause-given c =
     let g = c.requires.given in
     let is = entry_linked g.0 g.1.sound c.args.old.now c.args.new.now (end_view c.args.from.now) c.args.dir c.args.name.now c.requires.old c.requires.new g.2 g.3 g.4 (name_of c.new_entry.result) c.args.sub.now.next_index c.ino.result
-    (c.new_entry.ensures g.0.sub (record { gives = g.1.gives; coherent = g.1.sound.coherent }) (record { there = tt; new = tt })) g.1.next_index c.ino.ensures in
-    (g.0.sub, record { gives = g.1.gives; coherent = g.1.sound.coherent },
-    record { there = tt; new = (linked_new g.0 g.1.sound c.args.old.now c.args.new.now (end_view c.args.from.now) c.args.dir c.args.name.now c.requires.old c.requires.new g.2 g.3 g.4 (name_of c.new_entry.result) is, tt) })
+    (c.new_entry.ensures g.0.sub (record { gives = g.1.gives; coherent = g.1.sound.coherent }) (record { there = tt; new = tt })) g.1.next_index c.ino.ensures in (
+      g.0.sub,
+      record { gives = g.1.gives; coherent = g.1.sound.coherent },
+      record { there = tt; new = (linked_new g.0 g.1.sound c.args.old.now c.args.new.now (end_view c.args.from.now) c.args.dir c.args.name.now c.requires.old c.requires.new g.2 g.3 g.4 (name_of c.new_entry.result) is, tt) },
+    )
 
 pub do_collide-requires-clause-made : goal.do_collide-requires-clause-made
 do_collide-requires-clause-made c =
