@@ -1,5 +1,5 @@
 -- A subvolume with one inode more.
-use Rattle.std.proofs.Common.{◌≡◌, ◌≢◌, ◌⊎◌, ◌∙◌, ◌||◌, ◌&&◌, ◌*◌, ℕ, Bool, true, false, List, [], ◌∷◌, Contains, Option, Some, None, length, map, nat_eq, refl, sym, ap, subst, inl, inr, arith}
+use Rattle.std.proofs.Common.{Bor, ◌≡◌, ◌≢◌, ◌⊎◌, ◌∙◌, ◌||◌, ◌&&◌, ◌*◌, ℕ, Bool, true, false, List, [], ◌∷◌, Contains, Option, Some, None, length, map, nat_eq, refl, sym, ap, subst, inl, inr, arith}
 use Rattle.std.specs.Prelude.{filter}
 use Rattle.std.specs.List.{sum_by}
 use Rattle.std.specs.FinMap.{empty, entries, get, get-empty, insert, len-empty}
@@ -99,7 +99,7 @@ module _ (sub : Subvolume) (ino : ℕ) (may : MayAddInode sub ino) where
 
   module _ (blocks : Data) where
     -- no attribute and no extent of the inode is there before
-    no_attribute : (key : Key) (there : Option (List ℕ)) → key.kind ≡ xattr_item → key.objectid ≡ ino → HoldsKey sub blocks key there → there ≡ None
+    pub no_attribute : (key : Key) (there : Option (List ℕ)) → key.kind ≡ xattr_item → key.objectid ≡ ino → HoldsKey sub blocks key there → there ≡ None
     no_attribute key None kind is holds = refl
     no_attribute key (Some bytes) kind is holds =
         let asked = asked_attributes sub blocks key bytes kind (holds.only bytes refl) in
@@ -111,7 +111,7 @@ module _ (sub : Subvolume) (ino : ℕ) (may : MayAddInode sub ino) where
         empties [] some size = some refl
         empties (e ∷ found) some size = omega arith
 
-    no_extent : (key : Key) (there : Option (List ℕ)) → key.kind ≡ extent_data → key.objectid ≡ ino → HoldsKey sub blocks key there → there ≡ None
+    pub no_extent : (key : Key) (there : Option (List ℕ)) → key.kind ≡ extent_data → key.objectid ≡ ino → HoldsKey sub blocks key there → there ≡ None
     no_extent key None kind is holds = refl
     no_extent key (Some bytes) kind is holds =
         let asked = asked_extent sub blocks key bytes kind (holds.only bytes refl) in
@@ -126,92 +126,98 @@ attributes_ask sub key k (AsksHashed l _) = absurd (omega arith)
 attributes_ask sub key k (AsksIndexed l _) = absurd (omega arith)
 attributes_ask sub key k (AsksTarget _ l _ _) = absurd (omega arith)
 
-target_asks : (sub : Subvolume) (key : Key) → key.kind ≡ extent_data → DoesAsk sub key → (link : LinkRecord) × (get sub.inodes key.objectid ≡ Some (LinkInode link))
+target_asks : (sub : Subvolume) (key : Key) → key.kind ≡ extent_data → DoesAsk sub key → (link : LinkRecord) × (key.offset ≡ 0) × (get sub.inodes key.objectid ≡ Some (LinkInode link))
 target_asks sub key k (AsksInode _ l _ _) = absurd (omega arith)
 target_asks sub key k (AsksRefs l _) = absurd (omega arith)
 target_asks sub key k (AsksExtRefs l _) = absurd (omega arith)
 target_asks sub key k (AsksAttributes l _) = absurd (omega arith)
 target_asks sub key k (AsksHashed l _) = absurd (omega arith)
 target_asks sub key k (AsksIndexed l _) = absurd (omega arith)
-target_asks sub key k (AsksTarget link l _ there) = (link, there)
+target_asks sub key k (AsksTarget link l zero there) = (link, zero, there)
 
-module _ (sub : Subvolume) (blocks : Data) (ino : ℕ) (inode : InodeRecord) (plain : IsPlain inode) where
-  new : Subvolume
-  new = with_record sub ino inode
-
+module _ (sub : Subvolume) (blocks : Data) (ino : ℕ) (inode : InodeRecord) where
   here : (key : Key) → key.objectid ≡ ino → get (with_record sub ino inode).inodes key.objectid ≡ Some inode
   here key is = ap (get (insert sub.inodes ino inode)) is ∙ get_insert_same sub.inodes ino inode
 
   -- where nothing stands, the new inode asks for no attribute and no target
-  pub attribute_holds : (key : Key) → key.kind ≡ xattr_item → key.objectid ≡ ino → HoldsKey (with_record sub ino inode) blocks key None
-  attribute_holds key kind is = record {
+  pub attribute_holds : attributes_of inode ≡ empty → (key : Key) → key.kind ≡ xattr_item → key.objectid ≡ ino → HoldsKey (with_record sub ino inode) blocks key None
+  attribute_holds plain key kind is = record {
     only = λ bytes e. absurd cc;
     all = λ asks.
-        let none : attributes_there (get (with_record sub ino inode).inodes key.objectid) ≡ [] = ap attributes_there (here key is) ∙ ap entries plain.attributes ∙ entries_empty _ in
+        let none : attributes_there (get (with_record sub ino inode).inodes key.objectid) ≡ [] = ap attributes_there (here key is) ∙ ap entries plain ∙ entries_empty _ in
         absurd (attributes_ask (with_record sub ino inode) key kind asks
         (ap (λ (l : List (List ℕ × List ℕ)). map attribute_entry (filter (λ attribute. nat_eq (name_hash_of attribute.0) key.offset) l)) none));
   }
 
-  pub target_holds : (key : Key) → key.kind ≡ extent_data → key.objectid ≡ ino → HoldsKey (with_record sub ino inode) blocks key None
-  target_holds key kind is = record {
+  pub target_holds : ((link : LinkRecord) → inode ≢ LinkInode link) → (key : Key) → key.kind ≡ extent_data → key.objectid ≡ ino → HoldsKey (with_record sub ino inode) blocks key None
+  target_holds no_link key kind is = record {
     only = λ bytes e. absurd cc;
     all = λ asks.
         let link = target_asks (with_record sub ino inode) key kind asks in
-        absurd (plain.no_link link.0 (some_same inode (LinkInode link.0) (sym (here key is) ∙ link.1)));
+        absurd (no_link link.0 (some_same inode (LinkInode link.0) (sym (here key is) ∙ link.2)));
   }
 
 -- a new inode is plain, and its item says it
-pub new_is_plain : (made_as : NewInode) → IsPlain (new_record made_as)
-new_is_plain made.File = file_is_plain
-new_is_plain made.Dir = dir_is_plain
+pub new_is_plain : (made_as : NewInode) → ((target : Bor (List ℕ)) → made_as ≡ made.Link target → ⊥) → IsPlain (new_record made_as)
+new_is_plain made.File other = file_is_plain
+new_is_plain made.Dir other = dir_is_plain
+new_is_plain (made.Link target) other = absurd (other target refl)
 
 pub new_item_of : (sub : Subvolume) (ino : ℕ) → MayAddInode sub ino → (made_as : NewInode) (running : ℕ) (value : InodeValue) (bytes : List ℕ) → IsInode bytes value → IsNewItem made_as running value
     → IsInodeOf (with_record sub ino (new_record made_as)) ino (new_record made_as) bytes
 new_item_of sub ino may made.File running value bytes spelled is = file_item sub ino may value bytes spelled is.mode is.size is.nbytes is.nlink
 new_item_of sub ino may made.Dir running value bytes spelled is = dir_item_of sub ino may value bytes spelled is.mode is.size is.nbytes is.nlink
+new_item_of sub ino may (made.Link target) running value bytes spelled is = record {
+  value = value;
+  spelled = spelled;
+  mode = is.mode;
+  size = is.size;
+  nbytes = is.nbytes;
+  nlink = is.nlink ∙ sym (new_links sub ino may);
+}
 
 pub new_mode : (made_as : NewInode) (running : ℕ) (value : InodeValue) → IsNewItem made_as running value → (value.mode ≡ file_mode) ⊎ (value.mode ≡ dir_mode) ⊎ (value.mode ≡ link_mode)
 new_mode made.File running value is = inl is.mode
 new_mode made.Dir running value is = inr (inl is.mode)
+new_mode (made.Link target) running value is = inr (inr is.mode)
+
+-- under another offset than 0 no target is asked for
+pub other_offset_holds : (sub : Subvolume) (blocks : Data) (key : Key) → key.kind ≡ extent_data → key.offset ≢ 0 → HoldsKey sub blocks key None
+other_offset_holds sub blocks key kind other = record { only = λ bytes e. absurd cc; all = λ asks. absurd (other (target_asks sub key kind asks).1) }
 
 -- ---- the whole edit
 
--- one item of an inode is put where a subvolume has no such inode
-pub record IsAdding (old new : Table) (before after : Tree) (sub : Subvolume) (ino : ℕ) (inode : InodeRecord) (running : ℕ) (bytes : List ℕ) : Type 0 where
+-- the items of an inode are put where a subvolume has no such inode: its inode item, and its target, if it is a symlink
+pub record IsAdding (old new : Table) (before after : Tree) (sub : Subvolume) (ino : ℕ) (inode : InodeRecord) (running most : ℕ) (bytes : List ℕ) (target : Option (List ℕ)) : Type 0 where
   pub gives : GivesSubvolume old before sub
   pub may : MayAddInode sub ino
-  pub edit : IsItemEdit old new before after (make_key ino inode_item 0) (Some bytes)
-  pub plain : IsPlain inode
+  pub whole : IsTreeEdit old new before after running most
+  pub files : tree_data new after ≡ tree_data old before
+  pub here : data_under (make_key ino inode_item 0) (tree_items new after) ≡ Some bytes
+  pub extent : data_under (make_key ino extent_data 0) (tree_items new after) ≡ target
+  pub elsewhere : (key : Key) → key ≢ make_key ino inode_item 0 → key ≢ make_key ino extent_data 0 → data_under key (tree_items new after) ≡ data_under key (tree_items old before)
   pub right : IsInodeOf (with_record sub ino inode) ino inode bytes
-  pub bears : BearsUnder running (tree_items old before) (make_key ino inode_item 0) bytes
+  pub attributes : attributes_of inode ≡ empty
+  pub no_blocks : (file : FileRecord) → inode ≡ FileInode file → file.blocks ≡ empty
+  pub said : HoldsKey (with_record sub ino inode) (data_in old) (make_key ino extent_data 0) target
 
-module _ (old new : Table) (before after : Tree) (sub : Subvolume) (ino : ℕ) (inode : InodeRecord) (running : ℕ) (bytes : List ℕ) (h : IsAdding old new before after sub ino inode running bytes) where
-  next : Subvolume
-  next = with_record sub ino inode
-
-  mine : Key
-  mine = make_key ino inode_item 0
-
+module _ (old new : Table) (before after : Tree) (sub : Subvolume) (ino : ℕ) (inode : InodeRecord) (running most : ℕ) (bytes : List ℕ) (target : Option (List ℕ)) (h : IsAdding old new before after sub ino inode running most bytes target) where
   held : (key : Key) → HoldsKey sub (data_in old) key (data_under key (tree_items old before))
   held key = keys_hold (tree_items old before) (data_in old) sub h.gives.tree_in.order h.gives.items key
 
-  now_else : (key : Key) → key ≢ make_key ino inode_item 0 → data_under key (tree_items new after) ≡ data_under key (tree_items old before)
-  now_else key other = now_other old new before after (make_key ino inode_item 0) key (Some bytes) h.edit other
-
-  pub added_edit : IsTreeEdit old new before after running 17
-  added_edit = h.edit.edit running (λ b e. subst (BearsUnder running (tree_items old before) (make_key ino inode_item 0)) (some_same bytes b e) h.bears)
-
-  pub added_files : tree_data new after ≡ tree_data old before
-  added_files = same_files old new before after (make_key ino inode_item 0) (Some bytes) h.gives.tree_in h.edit (λ e. absurd (omega arith))
-
-  not_mine : (key : Key) → key.kind ≢ inode_item → key ≢ make_key ino inode_item 0
-  not_mine key other same = other (ap (λ (k : Key). k.kind) same)
+  apart : (key : Key) → key.kind ≢ inode_item → key.kind ≢ extent_data → data_under key (tree_items new after) ≡ data_under key (tree_items old before)
+  apart key one two = h.elsewhere key (λ same. one (ap (λ (k : Key). k.kind) same)) (λ same. two (ap (λ (k : Key). k.kind) same))
 
   untouched : (key : Key) → is_touched [] (ino ∷ []) key ≡ false → data_under key (tree_items new after) ≡ data_under key (tree_items old before)
-  untouched key out = now_else key (λ same. true≢false (sym (mine_touched) ∙ ap (is_touched [] (ino ∷ [])) (sym same) ∙ out))
+  untouched key out = h.elsewhere key
+      (λ same. true≢false (sym inode_touched ∙ ap (is_touched [] (ino ∷ [])) (sym same) ∙ out))
+      (λ same. true≢false (sym extent_touched ∙ ap (is_touched [] (ino ∷ [])) (sym same) ∙ out))
     where
-      mine_touched : is_touched [] (ino ∷ []) (make_key ino inode_item 0) ≡ true
-      mine_touched = ap (λ (b : Bool). (b && true) || false) (eq-eqb ino ino refl)
+      inode_touched : is_touched [] (ino ∷ []) (make_key ino inode_item 0) ≡ true
+      inode_touched = ap (λ (b : Bool). (b && true) || false) (eq-eqb ino ino refl)
+
+      extent_touched : is_touched [] (ino ∷ []) (make_key ino extent_data 0) ≡ true
+      extent_touched = ap (λ (b : Bool). (b && true) || false) (eq-eqb ino ino refl)
 
   -- the keys that tell of the inode's record
   of_inode : (key : Key) → is_touched [] (ino ∷ []) key ≡ true → (key.objectid ≡ ino) × ((key.kind ≡ inode_item) ⊎ ((key.kind ≡ xattr_item) ⊎ (key.kind ≡ extent_data)))
@@ -234,18 +240,31 @@ module _ (old new : Table) (before after : Tree) (sub : Subvolume) (ino : ℕ) (
   at_inode key is kind = elim (cases_eq key.offset 0) [
     | inl zero ↦
         let same : key ≡ make_key ino inode_item 0 = key_is key ino inode_item 0 (sym is) kind (sym zero) in
-        let found : data_under key (tree_items new after) ≡ Some bytes = ap (λ (k : Key). data_under k (tree_items new after)) same ∙ now_here old new before after (make_key ino inode_item 0) (Some bytes) h.edit in
+        let found : data_under key (tree_items new after) ≡ Some bytes = ap (λ (k : Key). data_under k (tree_items new after)) same ∙ h.here in
         subst (λ (o : Option (List ℕ)). HoldsKey (with_record sub ino inode) (data_in old) key o) (sym found)
         (inode_holds (with_record sub ino inode) (data_in old) key inode bytes kind zero (ap (get (insert sub.inodes ino inode)) is ∙ get_insert_same sub.inodes ino inode)
         (subst (λ (i : ℕ). IsInodeOf (with_record sub ino inode) i inode bytes) (sym is) h.right))
     | inr other ↦
-        subst (λ (o : Option (List ℕ)). HoldsKey (with_record sub ino inode) (data_in old) key o) (sym (now_else key (λ same. other (ap (λ (k : Key). k.offset) same))))
+        subst (λ (o : Option (List ℕ)). HoldsKey (with_record sub ino inode) (data_in old) key o)
+        (sym (h.elsewhere key (λ same. other (ap (λ (k : Key). k.offset) same)) (λ same. absurd (omega (arith, kind, ap (λ (k : Key). k.kind) same)))))
         (elsewhere_holds sub (with_record sub ino inode) (data_in old) key (data_under key (tree_items old before)) kind other (held key))
   ]
 
-  no_extent_now : (key : Key) → key.kind ≡ extent_data → key.objectid ≡ ino → data_under key (tree_items new after) ≡ None
-  no_extent_now key kind is =
-      now_else key (not_mine key (λ e. absurd (omega (arith, kind, e)))) ∙ no_extent sub ino h.may (data_in old) key (data_under key (tree_items old before)) kind is (held key)
+  no_extent_now : (key : Key) → key.kind ≡ extent_data → key.objectid ≡ ino → key.offset ≢ 0 → data_under key (tree_items new after) ≡ None
+  no_extent_now key kind is other =
+      h.elsewhere key (λ same. absurd (omega (arith, kind, ap (λ (k : Key). k.kind) same))) (λ same. other (ap (λ (k : Key). k.offset) same))
+      ∙ no_extent sub ino h.may (data_in old) key (data_under key (tree_items old before)) kind is (held key)
+
+  at_extent : (key : Key) → key.objectid ≡ ino → key.kind ≡ extent_data → HoldsKey (with_record sub ino inode) (data_in old) key (data_under key (tree_items new after))
+  at_extent key is kind = elim (cases_eq key.offset 0) [
+    | inl zero ↦
+        let same : key ≡ make_key ino extent_data 0 = key_is key ino extent_data 0 (sym is) kind (sym zero) in
+        subst (λ (k : Key). HoldsKey (with_record sub ino inode) (data_in old) k (data_under k (tree_items new after))) (sym same)
+        (subst (λ (o : Option (List ℕ)). HoldsKey (with_record sub ino inode) (data_in old) (make_key ino extent_data 0) o) (sym h.extent) h.said)
+    | inr other ↦
+        subst (λ (o : Option (List ℕ)). HoldsKey (with_record sub ino inode) (data_in old) key o) (sym (no_extent_now key kind is other))
+        (other_offset_holds (with_record sub ino inode) (data_in old) key kind other)
+  ]
 
   touched : (key : Key) → is_touched [] (ino ∷ []) key ≡ true → HoldsKey (with_record sub ino inode) (data_in old) key (data_under key (tree_items new after))
   touched key there = go (of_inode key there).0 (of_inode key there).1
@@ -254,27 +273,26 @@ module _ (old new : Table) (before after : Tree) (sub : Subvolume) (ino : ℕ) (
       go is (inl kind) = at_inode key is kind
       go is (inr (inl kind)) =
           subst (λ (o : Option (List ℕ)). HoldsKey (with_record sub ino inode) (data_in old) key o)
-          (sym (now_else key (not_mine key (λ e. absurd (omega (arith, kind, e)))) ∙ no_attribute sub ino h.may (data_in old) key (data_under key (tree_items old before)) kind is (held key)))
-          (attribute_holds sub (data_in old) ino inode h.plain key kind is)
-      go is (inr (inr kind)) =
-          subst (λ (o : Option (List ℕ)). HoldsKey (with_record sub ino inode) (data_in old) key o) (sym (no_extent_now key kind is)) (target_holds sub (data_in old) ino inode h.plain key kind is)
+          (sym (apart key (λ e. absurd (omega (arith, kind, e))) (λ e. absurd (omega (arith, kind, e))) ∙ no_attribute sub ino h.may (data_in old) key (data_under key (tree_items old before)) kind is (held key)))
+          (attribute_holds sub (data_in old) ino inode h.attributes key kind is)
+      go is (inr (inr kind)) = at_extent key is kind
 
   extents : (i : ℕ) → Contains (ino ∷ []) i → HoldsExtents (with_record sub ino inode) (tree_items new after) i
   extents i c = elim (in_cons ino i [] c) [
     | inl same ↦ subst (λ (i : ℕ). HoldsExtents (with_record sub ino inode) (tree_items new after) i) same (record {
       covered = λ file number block there has.
-          let none = h.plain.no_blocks file (some_same inode (FileInode file) (sym (get_insert_same sub.inodes ino inode) ∙ there)) in
-          absurd (some_none block (sym has ∙ ap (λ (b : Blocks). get b number) none ∙ get-empty _ number));
+      let none = h.no_blocks file (some_same inode (FileInode file) (sym (get_insert_same sub.inodes ino inode) ∙ there)) in
+      absurd (some_none block (sym has ∙ ap (λ (b : Blocks). get b number) none ∙ get-empty _ number));
       apart = λ one two first second a b less.
-          absurd (some_none first (sym (found_under (tree_items new after) (make_key ino extent_data one) first added_edit.tree.order a) ∙ no_extent_now (make_key ino extent_data one) refl refl));
+      absurd (some_none second (sym (found_under (tree_items new after) (make_key ino extent_data two) second h.whole.tree.order b) ∙ no_extent_now (make_key ino extent_data two) refl refl (λ e. absurd (omega (arith, less, e)))));
     })
     | inr none ↦ absurd (in_nothing i none)
   ]
 
   are_items : AreItemsOf (tree_items new after) (data_in old) (with_record sub ino inode)
   are_items =
-      change_holds (tree_items old before) (tree_items new after) (data_in old) (data_in old) sub (with_record sub ino inode) [] (ino ∷ []) h.gives.tree_in.order added_edit.tree.order h.gives.items
+      change_holds (tree_items old before) (tree_items new after) (data_in old) (data_in old) sub (with_record sub ino inode) [] (ino ∷ []) h.gives.tree_in.order h.whole.tree.order h.gives.items
       (record_written sub ino inode (λ name has leads. absurd (h.may.unnamed name has leads))) untouched (λ key bytes out kind there at c. refl) touched extents
 
   pub added_gives : GivesSubvolume new after (with_record sub ino inode)
-  added_gives = tree_gives old new before after running 17 sub (with_record sub ino inode) h.gives added_edit added_files are_items
+  added_gives = tree_gives old new before after running most sub (with_record sub ino inode) h.gives h.whole h.files are_items

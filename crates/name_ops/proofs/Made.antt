@@ -6,7 +6,7 @@ use Rattle.block_table.specs.declared.tree.SubState.{SubState}
 use Rattle.block_table.specs.Table.{Table}
 use Rattle.flat_model.specs.declared.answer.Answer.{Answer}
 use Rattle.flat_model.specs.declared.answer.Answer.TheVariants.{Collide, Number}
-use Rattle.flat_model.specs.declared.op.Op.TheVariants.{Create, Mkdir}
+use Rattle.flat_model.specs.declared.op.Op.TheVariants.{Create, Mkdir, Symlink}
 use Rattle.flat_model.specs.Coherent.{IsNameBytes}
 use Rattle.flat_model.specs.Names.{FlatName, add_name}
 use Rattle.flat_model.specs.Operations.{Outcome, do_collide, first_answer, make, make_done, make_rows, new_name, unchanged, unless_refused, with_record}
@@ -25,7 +25,7 @@ use Rattle.flat_model.proofs.Ways.{EndsAtSlot, dir_record, walk_slot}
 use Rattle.table_volume.specs.Edited.{Makes}
 use Rattle.table_volume.specs.Running.{GivesRun}
 use Rattle.table_volume.proofs.SubEdits.{sub_more}
-use Rattle.inode_items.specs.Inodes.{MayAddInode, new_record}
+use Rattle.inode_items.specs.Inodes.{KeepsNewLimits, MayAddInode, new_record}
 use Rattle.inode_items.specs.declared.add.NewInode.{NewInode}
 use Rattle.inode_items.specs.declared.add.NewInode.TheVariants as made
 use Rattle.name_items.specs.Names.{MayAddName}
@@ -38,7 +38,7 @@ use Rattle.name_ops.proofs.Bounds.{sizes_fit}
 use Rattle.name_ops.proofs.Stages.{makes_joined}
 
 module _ (run : RunSub) (sound : IsSound run) (path : List (List ℕ)) (new : NewInode) (dir : ℕ) (bytes : List ℕ) (is_path : IsPath path)
-    (path_is : walk run.sub path ≡ AtSlot dir bytes None) (none : first_answer (make_tests run (AtSlot dir bytes None)) ≡ None) where
+    (path_is : walk run.sub path ≡ AtSlot dir bytes None) (none : first_answer (make_tests run (AtSlot dir bytes None)) ≡ None) (limits : KeepsNewLimits new) where
   ends : EndsAtSlot run.sub dir bytes None path
   ends = walk_slot run.sub path dir bytes None path_is
 
@@ -137,11 +137,12 @@ module _ (run : RunSub) (sound : IsSound run) (path : List (List ℕ)) (new : Ne
   same_outcome index = λ i. outcome (path_is i) index
 
   keeps : (index : ℕ) → KeepsSound run (make run path (new_record new) index)
-  keeps index = by_kind new
+  keeps index = by_kind new limits
     where
-      by_kind : (kind : NewInode) → KeepsSound run (make run path (new_record kind) index)
-      by_kind made.File = outcome_sound run sound (Create (record { sub = record { 0 = 5 }; path = path })) is_path tt (index ∷ [])
-      by_kind made.Dir = outcome_sound run sound (Mkdir (record { sub = record { 0 = 5 }; path = path })) is_path tt (index ∷ [])
+      by_kind : (kind : NewInode) → KeepsNewLimits kind → KeepsSound run (make run path (new_record kind) index)
+      by_kind made.File kept = outcome_sound run sound (Create (record { sub = record { 0 = 5 }; path = path })) is_path tt (index ∷ [])
+      by_kind made.Dir kept = outcome_sound run sound (Mkdir (record { sub = record { 0 = 5 }; path = path })) is_path tt (index ∷ [])
+      by_kind (made.Link target) kept = outcome_sound run sound (Symlink (record { sub = record { 0 = 5 }; path = path }) target.now) (is_path, kept.2) (kept.0, kept.1) (index ∷ [])
 
   module _ (table : Table) (state : SubState) (gives : GivesRun table state run) where
     pub make_collides : do_collide run.sub.names (first_name ∷ []) ≡ true → IsOperated table table state state run (make run path (new_record new) state.next_index) Collide 512
@@ -153,7 +154,7 @@ module _ (run : RunSub) (sound : IsSound run) (path : List (List ℕ)) (new : Ne
         ∙ ap (λ (b : Bool). first_answer ((b, Collide) ∷ [])) full))
 
     pub make_done_so : (mid next : Table) (between after : SubState) (ino index : ℕ) → do_collide run.sub.names (first_name ∷ []) ≡ false
-        → Makes table mid state between 17 (with_record run.sub (run.numbers.last_ino + 1) (new_record new))
+        → Makes table mid state between 34 (with_record run.sub (run.numbers.last_ino + 1) (new_record new))
         → Makes mid next between after 85 (with_names (with_record run.sub (run.numbers.last_ino + 1) (new_record new)) (add_name first_name run.sub.names))
         → ino ≡ run.numbers.last_ino + 2 → index ≡ run.numbers.last_index + 2
         → IsOperated table next state (record after { next_ino = ino; next_index = index }) run (make run path (new_record new) state.next_index) (Number (run.numbers.last_ino + 1)) 512
@@ -167,8 +168,8 @@ module _ (run : RunSub) (sound : IsSound run) (path : List (List ℕ)) (new : Ne
         let sound_after : IsSound (make_done run (new_record new) first_name).next =
         subst (λ (o : Outcome). IsSound o.next) is_done (keeps state.next_index (subst (λ (o : Outcome). AreNextIndexes run.numbers o.made) (sym is_done) choice)) in
         let sub = with_names (with_record run.sub (run.numbers.last_ino + 1) (new_record new)) (add_name first_name run.sub.names) in
-        let joined = makes_joined table mid next state between after 17 85 (with_record run.sub (run.numbers.last_ino + 1) (new_record new)) sub first second in
-        let numbered = renumbered table next state after 102 ino index sub joined in
+        let joined = makes_joined table mid next state between after 34 85 (with_record run.sub (run.numbers.last_ino + 1) (new_record new)) sub first second in
+        let numbered = renumbered table next state after 119 ino index sub joined in
         subst (λ (o : Outcome). IsOperated table next state (record after { next_ino = ino; next_index = index }) run o (Number (run.numbers.last_ino + 1)) 512) (sym is_done) (record {
           said = refl;
           gives = record {
@@ -178,7 +179,7 @@ module _ (run : RunSub) (sound : IsSound run) (path : List (List ℕ)) (new : Ne
             next_ino = omega (arith, ino_is);
             next_index = omega (arith, index_is);
           };
-          edit = sub_more table next state (record after { next_ino = ino; next_index = index }) 102 512 numbered.edit (omega arith);
+          edit = sub_more table next state (record after { next_ino = ino; next_index = index }) 119 512 numbered.edit (omega arith);
           choice = choice;
           refused = λ is. absurd cc;
         })

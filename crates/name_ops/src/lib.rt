@@ -1,4 +1,4 @@
-//! Operations on names in the tree of a subvolume: `lookup`, `create`, `mkdir` and `link`. A walk and a few more searches
+//! Operations on names in the tree of a subvolume: `lookup`, `create`, `mkdir`, `symlink` and `link`. A walk and a few more searches
 //! decide which refusal comes first; where none does, the subvolume is edited copy on write. No call takes memory.
 //!
 //! `specs/Operated.antt` says what each comes to: the answer and the next subvolume of the definition of operations, in an
@@ -15,4 +15,4 @@ mod sums;
 
 pub use finding::lookup;
 pub use linking::link;
-pub use making::{create, mkdir};
+pub use making::{create, mkdir, symlink};
