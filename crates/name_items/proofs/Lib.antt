@@ -6,5 +6,7 @@ pub mod AskedLists
 pub mod Inodes
 pub mod Adding
 pub mod Steps
-pub mod AddedName
 pub mod Found
+pub mod NameEdit
+pub mod AddedName
+pub mod Seen

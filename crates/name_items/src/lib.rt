@@ -5,6 +5,7 @@
 mod add;
 mod entry;
 mod items;
+mod place;
 
 pub use add::add_name;
 pub use entry::NameEntry;
