@@ -3,6 +3,7 @@
 #![tactic(auto)]
 
 mod add;
+mod cut;
 mod entry;
 mod items;
 mod place;

@@ -11,8 +11,8 @@ use item_inode::{ExtRefs, Refs};
 /// From which byte to which the near name with these bytes lies, of names one of which has them ("INODE_REF" of the on-disk
 /// format).
 pub(crate) fn near_place(refs: Refs<'_>, name: &[u8]) -> (usize, usize)
-    requires there { (ref : RefValue) × Contains refs.entry ref × IsRefNamed name.now ref }
-    requires few { length (flat_map ref_bytes refs.entry) < 2 ^ 32 }
+    requires there { (ref : RefValue) × Contains refs ref × IsRefNamed name.now ref }
+    requires few { length (flat_map ref_bytes refs) < 2 ^ 32 }
     ensures { HasPlace ref_bytes (IsRefNamed name.now) refs.entry result.0 result.1 }
 {
     let mut at = 0;
@@ -28,8 +28,8 @@ pub(crate) fn near_place(refs: Refs<'_>, name: &[u8]) -> (usize, usize)
 
 /// The same of a far name, which a directory has ("INODE_EXTREF" of the on-disk format).
 pub(crate) fn far_place(refs: ExtRefs<'_>, parent: Ino, name: &[u8]) -> (usize, usize)
-    requires there { (ref : ExtRefValue) × Contains refs.entry ref × IsFarNamed parent.0 name.now ref }
-    requires few { length (flat_map extref_bytes refs.entry) < 2 ^ 32 }
+    requires there { (ref : ExtRefValue) × Contains refs ref × IsFarNamed parent.0 name.now ref }
+    requires few { length (flat_map extref_bytes refs) < 2 ^ 32 }
     ensures { HasPlace extref_bytes (IsFarNamed parent.0 name.now) refs.entry result.0 result.1 }
 {
     let mut at = 0;
@@ -45,8 +45,8 @@ pub(crate) fn far_place(refs: ExtRefs<'_>, parent: Ino, name: &[u8]) -> (usize, 
 
 /// The same of an entry of a directory ("DIR_ITEM" of the on-disk format).
 pub(crate) fn entry_place(entries: Entries<'_>, name: &[u8]) -> (usize, usize)
-    requires there { (entry : EntryValue) × Contains entries.entry entry × IsEntryNamed name.now entry }
-    requires few { length (flat_map entry_bytes entries.entry) < 2 ^ 32 }
+    requires there { (entry : EntryValue) × Contains entries entry × IsEntryNamed name.now entry }
+    requires few { length (flat_map entry_bytes entries) < 2 ^ 32 }
     ensures { HasPlace entry_bytes (IsEntryNamed name.now) entries.entry result.0 result.1 }
 {
     let mut at = 0;
