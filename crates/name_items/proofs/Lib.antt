@@ -10,3 +10,4 @@ pub mod Found
 pub mod NameEdit
 pub mod AddedName
 pub mod Seen
+pub mod Opened
