@@ -22,7 +22,7 @@ use Rattle.volume_image.proofs.ItemLengths.{dir_item_has_length, extref_item_has
 use Rattle.table_volume.specs.Gives.{GivesSubvolume, data_in}
 use Rattle.table_volume.proofs.Keyed.{keys_hold}
 use Rattle.item_edit.specs.ItemEdit.{HasInode, bytes_under}
-use Rattle.name_items.specs.Names.{MayAddName, hashed_key, names_size, ref_entry, ref_key}
+use Rattle.name_items.specs.Names.{MayAddName, MayRemoveName, hashed_key, names_size, ref_entry, ref_key}
 use Rattle.name_items.proofs.Inodes.{InodeThere, inode_before}
 
 module _ (table : Table) (tree : Tree) (s : Subvolume) (gives : GivesSubvolume table tree s) where
@@ -78,6 +78,22 @@ module _ (table : Table) (tree : Tree) (s : Subvolume) (gives : GivesSubvolume t
 
     pub entry_fits : length (bytes_under (hashed_key name) (tree_items table tree)) + (30 + length name.bytes) ≤ 3970
     entry_fits = omega (arith, hashed_under name.dir (name_hash_of name.bytes), may.entry_fits)
+
+module _ (table : Table) (tree : Tree) (s : Subvolume) (gives : GivesSubvolume table tree s) (name : FlatName) (may : MayRemoveName s name) where
+  remove_by : (b : Bool) → name.near ≡ b → length (bytes_under (ref_key name) (tree_items table tree)) ≤ 3970
+  remove_by true near =
+      let here : length (bytes_under (make_key name.ino inode_ref name.dir) (tree_items table tree)) ≤ 3970 = omega (arith, near_under table tree s gives name.ino name.dir may.not_root, may.near_fits near) in
+      rw near here
+  remove_by false far =
+      let hash : ℕ = extref_hash_of name.dir name.bytes in
+      let here : length (bytes_under (make_key name.ino inode_extref hash) (tree_items table tree)) ≤ 3970 = omega (arith, far_under table tree s gives name.ino hash, may.far_fits far) in
+      rw far here
+
+  pub remove_ref_fits : length (bytes_under (ref_key name) (tree_items table tree)) ≤ 3970
+  remove_ref_fits = remove_by name.near refl
+
+  pub remove_entry_fits : length (bytes_under (hashed_key name) (tree_items table tree)) ≤ 3970
+  remove_entry_fits = omega (arith, hashed_under table tree s gives name.dir (name_hash_of name.bytes), may.entry_fits)
 
 -- an inode's item says one thing
 pub one_inode : (items : List Item) (ino : ℕ) (one two : InodeValue) → HasInode items ino one → HasInode items ino two → one ≡ two

@@ -11,3 +11,5 @@ pub mod NameEdit
 pub mod AddedName
 pub mod Seen
 pub mod Opened
+pub mod Removing
+pub mod RemovedName

@@ -1,5 +1,5 @@
 -- Where an entry lies among the bytes of its item, and what is left once it is cut out.
-use Rattle.std.specs.Prelude.{◌≡◌, ◌+◌, ℕ, List, ◌∷◌, ◌++◌, length, take, drop, true, false, Contains}
+use Rattle.std.specs.Prelude.{◌≡◌, ◌≢◌, ◌+◌, ℕ, List, ◌∷◌, ◌++◌, length, take, drop, true, false, Contains}
 use Rattle.std.specs.List.{flat_map}
 use Rattle.blk_base.specs.declared.key.Key.{Key}
 use Rattle.blk_base.specs.Entries.{EntryValue, ExtRefValue, IsEntries, IsExtRefs, IsRefs, RefValue, entry_bytes, extref_bytes, ref_bytes}
@@ -7,11 +7,12 @@ use Rattle.blk_base.specs.Keys.{dir_item}
 use Rattle.blk_base.specs.Leaf.{Item}
 use Rattle.block_table.specs.declared.tree.Tree.{Tree}
 use Rattle.block_table.specs.Table.{Table}
+use Rattle.tree_range.specs.Between.{data_under}
 use Rattle.tree_range.specs.Shape.{IsTree, tree_items, tree_reach}
 use Rattle.tree_frame.specs.Frame.{AreCurrent, TakesAtMost}
 use Rattle.flat_model.specs.Names.{FlatName}
 use Rattle.item_edit.specs.ItemEdit.{IsItemEdit, bytes_under, item_bytes}
-use Rattle.name_items.specs.Names.{hashed_key, ref_key}
+use Rattle.name_items.specs.Names.{ref_key}
 
 -- an entry that lies from one byte to another (own)
 pub record IsPlaced {E : Type 0} (spell : E → List ℕ) (found : List E) (entry : E) (from to : ℕ) : Type 0 where
@@ -45,17 +46,9 @@ abbrev pub IsEntryNamed : List ℕ → EntryValue → Type 0
 IsEntryNamed name entry = entry.name ≡ name
 
 -- the item of a name's inode has its entry ("INODE_REF", "INODE_EXTREF")
-pub data HasRef (items : List Item) (name : FlatName) : Type 0 where
-  HasNear : (near : name.near ≡ true) (found : List RefValue) (refs : IsRefs (ref_key name) (bytes_under (ref_key name) items) found) (ref : RefValue) (there : Contains found ref) (named : IsRefNamed name.bytes ref) → HasRef items name
-  HasFar : (far : name.near ≡ false) (found : List ExtRefValue) (refs : IsExtRefs (bytes_under (ref_key name) items) found) (ref : ExtRefValue) (there : Contains found ref) (named : IsFarNamed name.dir name.bytes ref) → HasRef items name
-
--- the item of its directory has it ("DIR_ITEM")
-pub record HasHashed (items : List Item) (name : FlatName) : Type 0 where
-  pub found : List EntryValue
-  pub entries : IsEntries dir_item (bytes_under (hashed_key name) items) found
-  pub entry : EntryValue
-  pub there : Contains found entry
-  pub named : IsEntryNamed name.bytes entry
+pub record HasRef (items : List Item) (name : FlatName) : Type 0 where
+  pub near : name.near ≡ true → (found : List RefValue) × IsRefs (ref_key name) (bytes_under (ref_key name) items) found × (entry : RefValue) × Contains found entry × IsRefNamed name.bytes entry
+  pub far : name.near ≡ false → (found : List ExtRefValue) × IsExtRefs (bytes_under (ref_key name) items) found × (entry : ExtRefValue) × Contains found entry × IsFarNamed name.dir name.bytes entry
 
 -- a name's entry is cut out of the item of its inode (own)
 pub record CutsRef (old new : Table) (before after : Tree) (name : FlatName) : Type 0 where
@@ -66,3 +59,4 @@ pub record CutsRef (old new : Table) (before after : Tree) (name : FlatName) : T
   pub tree : IsTree new after
   pub current : AreCurrent new (tree_reach new after)
   pub taken : TakesAtMost old new 17
+  pub others : (other : Key) → other ≢ ref_key name → data_under other (tree_items new after) ≡ data_under other (tree_items old before)

@@ -83,7 +83,7 @@ fn entry_place_in(
 }
 
 /// Cuts a near name out of the item of its inode.
-fn cut_near(table: &mut BlockTable, tree: &mut Tree, key: Key, name: &NameEntry<'_>)
+pub(crate) fn cut_near(table: &mut BlockTable, tree: &mut Tree, key: Key, name: &NameEntry<'_>)
     requires tree { IsTree table.old tree.old }
     requires current { AreCurrent table.old (tree_reach table.old tree.old) }
     requires there { (found : List RefValue) × IsRefs key (bytes_under key (tree_items table.old tree.old)) found × (entry : RefValue) × Contains found entry × IsRefNamed name.now.bytes.now entry }
@@ -101,7 +101,7 @@ fn cut_near(table: &mut BlockTable, tree: &mut Tree, key: Key, name: &NameEntry<
 }
 
 /// Cuts a far name out of the item of its inode.
-fn cut_far(table: &mut BlockTable, tree: &mut Tree, key: Key, name: &NameEntry<'_>)
+pub(crate) fn cut_far(table: &mut BlockTable, tree: &mut Tree, key: Key, name: &NameEntry<'_>)
     requires tree { IsTree table.old tree.old }
     requires current { AreCurrent table.old (tree_reach table.old tree.old) }
     requires there { (found : List ExtRefValue) × IsExtRefs (bytes_under key (tree_items table.old tree.old)) found × (entry : ExtRefValue) × Contains found entry × IsFarNamed name.now.dir.0 name.now.bytes.now entry }
@@ -119,7 +119,7 @@ fn cut_far(table: &mut BlockTable, tree: &mut Tree, key: Key, name: &NameEntry<'
 }
 
 /// Cuts a name's entry out of the item of its directory.
-fn cut_hashed(table: &mut BlockTable, tree: &mut Tree, key: Key, name: &NameEntry<'_>)
+pub(crate) fn cut_hashed(table: &mut BlockTable, tree: &mut Tree, key: Key, name: &NameEntry<'_>)
     requires tree { IsTree table.old tree.old }
     requires current { AreCurrent table.old (tree_reach table.old tree.old) }
     requires there { (found : List EntryValue) × IsEntries dir_item (bytes_under key (tree_items table.old tree.old)) found × (entry : EntryValue) × Contains found entry × IsEntryNamed name.now.bytes.now entry }
