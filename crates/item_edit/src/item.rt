@@ -50,12 +50,7 @@ pub fn item_len(table: &BlockTable, tree: &Tree, key: &Key) -> usize
 }
 
 /// Copies the bytes under a key to the front, and tells how many they are.
-fn copy_item(
-    table: &BlockTable,
-    tree: &Tree,
-    key: &Key,
-    into: &mut [u8; MOST_ITEM_BYTES],
-) -> usize
+fn copy_item(table: &BlockTable, tree: &Tree, key: &Key, into: &mut [u8; MOST_ITEM_BYTES]) -> usize
     requires tree { IsTree table.now tree.now }
     requires short { length (bytes_under key.now (tree_items table.now tree.now)) ≤ MOST_ITEM_BYTES }
     ensures count { result ≡ length (bytes_under key.now (tree_items table.now tree.now)) }

@@ -1,21 +1,20 @@
 -- The edits that add a name make the subvolume with it.
-use Rattle.std.proofs.Common.{◌≡◌, ◌≢◌, ◌⊎◌, ◌∙◌, ◌+◌, ◌*◌, ◌<◌, ◌^◌, ◌++◌, ℕ, Bool, true, false, List, [], ◌∷◌, length, sum_by, Option, Some, None, refl, sym, ap, subst, inl, inr, arith}
+use Rattle.std.proofs.Common.{◌≡◌, ◌⊎◌, ◌∙◌, ◌+◌, ◌*◌, ◌<◌, ◌^◌, ◌++◌, ℕ, Bool, true, false, List, [], ◌∷◌, length, Option, Some, refl, sym, ap, subst, inl, inr, arith}
 use Rattle.std.specs.Prelude.{Contains}
 use Rattle.std.specs.FinMap.{get}
 use Rattle.std.specs.Option.{unwrap_or}
 use Rattle.std.proofs.lemmas.List.Elements.{Contains-append_cases}
 use Rattle.blk_base.specs.declared.key.Key.{Key}
 use Rattle.blk_base.specs.Crc.{extref_hash_of, name_hash_of}
-use Rattle.blk_base.specs.Entries.{EntryValue, IsEntries, entry_bytes, extref_bytes, ref_bytes}
+use Rattle.blk_base.specs.Entries.{EntryValue, entry_bytes, extref_bytes, ref_bytes}
 use Rattle.blk_base.specs.Items.{InodeValue, IsInode, dir_mode, inode_bytes}
-use Rattle.blk_base.specs.Keys.{dir_index, dir_item, inode_extref, inode_item, inode_ref}
-use Rattle.blk_base.specs.Leaf.{Item}
+use Rattle.blk_base.specs.Keys.{dir_index, dir_item, inode_extref, inode_ref}
 use Rattle.block_table.specs.declared.tree.Tree.{Tree}
 use Rattle.block_table.specs.Table.{Table}
 use Rattle.tree_range.specs.Between.{data_under}
 use Rattle.tree_range.specs.Shape.{tree_items, tree_reach}
 use Rattle.tree_frame.specs.Frame.{AreCurrent}
-use Rattle.flat_model.specs.Names.{FlatName, add_name, entries_of, links_of}
+use Rattle.flat_model.specs.Names.{FlatName}
 use Rattle.flat_model.specs.Records.{DirInode}
 use Rattle.flat_model.specs.Volume.{Subvolume}
 use Rattle.volume_image.specs.Subvolume.{entry_kind_of, extref_of, hashed_asked, make_key, mode_of, ref_of}
@@ -24,7 +23,7 @@ use Rattle.table_volume.specs.Gives.{GivesSubvolume, data_in}
 use Rattle.table_volume.specs.Keyed.{HoldsKey}
 use Rattle.table_volume.proofs.Changes.{name_added}
 use Rattle.table_volume.proofs.Keyed.{keys_hold}
-use Rattle.item_edit.specs.ItemEdit.{BearsUnder, HasInode, IsItemEdit, bytes_under}
+use Rattle.item_edit.specs.ItemEdit.{HasInode, IsItemEdit, bytes_under}
 use Rattle.item_edit.proofs.Files.{now_other}
 use Rattle.name_items.specs.Names.{MayAddName, hashed_key, indexed_key, ref_entry, ref_key}
 use Rattle.name_items.specs.Edits.{AddsEntries, NameEdits, kind_of_mode, made_entry, with_links, with_size}

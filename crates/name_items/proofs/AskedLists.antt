@@ -1,12 +1,10 @@
 -- What is asked for under the keys of a name, with the name and without it.
-use Rattle.std.proofs.Common.{◌≡◌, ◌≢◌, ◌∙◌, ◌&&◌, ℕ, Bool, true, false, not, List, [], ◌∷◌, ◌++◌, map, nat_eq, refl, sym, ap, subst, arith}
+use Rattle.std.proofs.Common.{◌≡◌, ◌&&◌, Bool, true, false, not, List, ◌∷◌, ◌++◌, map, nat_eq, refl}
 use Rattle.std.specs.Prelude.{Contains, filter}
-use Rattle.std.specs.FinMap.{get}
 use Rattle.std.specs.List.Sorted.{IsPermutation}
 use Rattle.std.proofs.lemmas.Bool.{eq-eqb}
 use Rattle.std.proofs.lemmas.List.Sorted.{IsPermutation-append_right, IsPermutation-map, IsPermutation-middle, IsPermutation-sym, IsPermutation-trans}
 use Rattle.blk_base.specs.Crc.{extref_hash_of, name_hash_of}
-use Rattle.blk_base.specs.Entries.{EntryValue, ExtRefValue, RefValue}
 use Rattle.flat_model.specs.Names.{FlatName, add_name, is_name_set, remove_name}
 use Rattle.flat_model.specs.Volume.{Subvolume}
 use Rattle.volume_image.specs.Subvolume.{entry_of, extref_of, extrefs_asked, hashed_asked, indexed_asked, own_refs, ref_of, refs_asked}

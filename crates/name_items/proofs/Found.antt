@@ -1,10 +1,10 @@
 -- What a call finds that adds a name or takes one out: the items of both inodes, and room in the items of its entries.
-use Rattle.std.proofs.Common.{◌≡◌, ◌≢◌, ◌∙◌, ◌+◌, ◌*◌, ◌≤◌, ◌<◌, ◌^◌, ◌++◌, ℕ, Bool, true, false, List, [], ◌∷◌, length, Option, Some, None, refl, sym, ap, subst, arith, length-append}
+use Rattle.std.proofs.Common.{◌≡◌, ◌≢◌, ◌∙◌, ◌+◌, ◌≤◌, ℕ, Bool, true, false, List, [], length, Option, Some, None, refl, sym, ap, arith}
 use Rattle.std.specs.FinMap.{get}
 use Rattle.std.specs.Option.{unwrap_or}
 use Rattle.blk_base.specs.declared.key.Key.{Key}
 use Rattle.blk_base.specs.Crc.{extref_hash_of, name_hash_of}
-use Rattle.blk_base.specs.Items.{InodeValue, IsInode, inode_value}
+use Rattle.blk_base.specs.Items.{InodeValue, inode_value}
 use Rattle.blk_base.specs.Keys.{dir_item, inode_extref, inode_item, inode_ref}
 use Rattle.blk_base.specs.Leaf.{Item}
 use Rattle.block_table.specs.declared.tree.Tree.{Tree}
@@ -12,7 +12,7 @@ use Rattle.block_table.specs.Table.{Table}
 use Rattle.tree_range.specs.Between.{data_under}
 use Rattle.tree_range.specs.Shape.{tree_items}
 use Rattle.tree_range.proofs.Found.{contains_under}
-use Rattle.flat_model.specs.Lengths.{dir_item_length, entry_length, extref_item_length, extref_length, ref_item_length, ref_length}
+use Rattle.flat_model.specs.Lengths.{dir_item_length, extref_item_length, ref_item_length}
 use Rattle.flat_model.specs.Names.{FlatName, links_of}
 use Rattle.flat_model.specs.Records.{DirInode, FileInode, InodeRecord, LinkInode}
 use Rattle.flat_model.specs.Volume.{Subvolume}
@@ -22,7 +22,7 @@ use Rattle.volume_image.proofs.ItemLengths.{dir_item_has_length, extref_item_has
 use Rattle.table_volume.specs.Gives.{GivesSubvolume, data_in}
 use Rattle.table_volume.proofs.Keyed.{keys_hold}
 use Rattle.item_edit.specs.ItemEdit.{HasInode, bytes_under}
-use Rattle.name_items.specs.Names.{MayAddName, MayRemoveName, hashed_key, names_size, ref_entry, ref_key}
+use Rattle.name_items.specs.Names.{MayAddName, MayRemoveName, hashed_key, ref_entry, ref_key}
 use Rattle.name_items.proofs.Inodes.{InodeThere, inode_before}
 
 module _ (table : Table) (tree : Tree) (s : Subvolume) (gives : GivesSubvolume table tree s) where

@@ -1,15 +1,13 @@
 -- The edits of a name's items and of its inodes' make the subvolume whose names they tell.
-use Rattle.std.proofs.Common.{◌≡◌, ◌≢◌, ◌⊎◌, ◌∙◌, ◌+◌, ◌*◌, ◌≤◌, ◌<◌, ◌^◌, ◌&&◌, ◌||◌, ◌++◌, ◌==◌, ℕ, Bool, true, false, not, List, [], ◌∷◌, length, nat_eq, sum_by, Option, Some, None, refl, sym, ap, subst, inl, inr, arith}
-use Rattle.std.specs.Prelude.{All, Contains}
+use Rattle.std.proofs.Common.{◌≡◌, ◌≢◌, ◌∙◌, ◌*◌, ◌&&◌, ◌||◌, ◌==◌, ℕ, Bool, true, false, not, List, [], ◌∷◌, length, nat_eq, sum_by, Option, Some, None, refl, sym, ap, subst, inl, inr, arith}
+use Rattle.std.specs.Prelude.{Contains}
 use Rattle.std.specs.FinMap.{get}
-use Rattle.std.specs.Option.{unwrap_or}
-use Rattle.std.proofs.lemmas.Bool.{and_parts, cases_Bool, cases_eq, eqb-true, true≢false}
-use Rattle.std.proofs.lemmas.List.Elements.{Contains-append_cases}
+use Rattle.std.proofs.lemmas.Bool.{and_parts, cases_eq, eqb-true, true≢false}
 use Rattle.blk_base.specs.declared.key.Key.{Key}
 use Rattle.blk_base.specs.Crc.{extref_hash_of, name_hash_of}
-use Rattle.blk_base.specs.Entries.{EntryValue, IsEntries, entry_bytes, extref_bytes, ref_bytes}
+use Rattle.blk_base.specs.Entries.{EntryValue, IsEntries}
 use Rattle.blk_base.specs.Items.{InodeValue, IsInode, dir_mode, inode_bytes}
-use Rattle.blk_base.specs.Keys.{dir_index, dir_item, extent_data, inode_extref, inode_item, inode_ref}
+use Rattle.blk_base.specs.Keys.{dir_index, dir_item, inode_extref, inode_item, inode_ref}
 use Rattle.blk_base.specs.Leaf.{Item}
 use Rattle.block_table.specs.declared.tree.SubState.{SubState}
 use Rattle.block_table.specs.declared.tree.Tree.{Tree}
@@ -18,26 +16,25 @@ use Rattle.tree_range.specs.Between.{data_under}
 use Rattle.tree_range.specs.Shape.{IsTree, tree_items, tree_reach}
 use Rattle.tree_range.proofs.Found.{contains_under}
 use Rattle.tree_frame.specs.Frame.{AreCurrent}
-use Rattle.flat_model.specs.Names.{FlatName, add_name, entries_of, links_of}
+use Rattle.flat_model.specs.Names.{FlatName, entries_of, links_of}
 use Rattle.flat_model.specs.Records.{DirInode, DirRecord, FileInode, InodeRecord, LinkInode}
 use Rattle.flat_model.specs.Volume.{Subvolume}
 use Rattle.flat_model.proofs.Maps.{some_same}
-use Rattle.volume_image.specs.Subvolume.{AreItemsOf, Data, IsInodeOf, entry_kind_of, extref_of, hashed_asked, make_key, mode_of, nlink_of, ref_of}
+use Rattle.volume_image.specs.Subvolume.{AreItemsOf, IsInodeOf, make_key, mode_of, nlink_of}
 use Rattle.volume_image.proofs.Lists.{in_cons, in_nothing}
-use Rattle.table_volume.specs.Edited.{HadEntry, IsSubEdit, Makes}
+use Rattle.table_volume.specs.Edited.{HadEntry, Makes}
 use Rattle.table_volume.specs.Gives.{GivesSubvolume, data_in, sub_reach, tree_data}
 use Rattle.table_volume.specs.Keyed.{ChangesOnly, HoldsKey, is_touched}
 use Rattle.table_volume.specs.TreeEdit.{IsTreeEdit}
 use Rattle.table_volume.proofs.Changing.{change_holds}
 use Rattle.table_volume.proofs.Keyed.{keys_hold}
 use Rattle.table_volume.proofs.SubEdits.{tree_as_sub, tree_gives, tree_joined, tree_more, tree_nothing}
-use Rattle.item_edit.specs.ItemEdit.{BearsUnder, HasInode, IsItemEdit, bytes_under}
+use Rattle.item_edit.specs.ItemEdit.{BearsUnder, HasInode}
 use Rattle.item_edit.proofs.Files.{now_here, now_other, same_files}
-use Rattle.name_items.specs.Names.{MayAddName, hashed_key, indexed_key, names_size, ref_entry, ref_key}
+use Rattle.name_items.specs.Names.{hashed_key, indexed_key, ref_key}
 use Rattle.name_items.specs.Edits.{IsDir, IsOther, LinksInode, NameEdits, with_links, with_size}
-use Rattle.name_items.proofs.Inodes.{InodeThere, dir_is_one, dir_sized, dir_stays, elsewhere_holds, inode_before, inode_holds, links_grow, names_grow, other_counted, others_added, value_is_one}
-use Rattle.name_items.proofs.Steps.{entries_bear, inode_bears, key_is, not_ref, or_cases, other_kind, ref_bears, ref_is_far, ref_is_near, ref_kinds, touches_dir, touches_hashed, touches_indexed, touches_inode, touches_ref}
-use Rattle.name_items.proofs.UnderKeys.{EntriesBefore, hashed_before}
+use Rattle.name_items.proofs.Inodes.{InodeThere, dir_is_one, dir_sized, dir_stays, elsewhere_holds, inode_before, inode_holds, other_counted}
+use Rattle.name_items.proofs.Steps.{inode_bears, key_is, not_ref, or_cases, other_kind, ref_is_far, ref_is_near, ref_kinds, touches_dir, touches_hashed, touches_indexed, touches_inode, touches_ref}
 
 -- ---- the last step: the inode's number of names, unless it is a directory
 

@@ -1,8 +1,7 @@
 -- What a reader of an item opens is what its bytes spell.
-use Rattle.std.proofs.Common.{◌≡◌, ◌∙◌, ◌≤◌, ◌<◌, ◌^◌, ℕ, List, [], ◌∷◌, length, Option, Some, None, Ok, refl, sym, ap, subst, arith}
-use Rattle.std.specs.List.{flat_map}
+use Rattle.std.proofs.Common.{◌≡◌, ◌∙◌, ℕ, List, [], ◌∷◌, length, Some, None, Ok, refl, sym, ap, subst, arith}
 use Rattle.blk_base.specs.declared.key.Key.{Key}
-use Rattle.blk_base.specs.Entries.{EntryValue, ExtRefValue, IsEntries, IsExtRefs, IsRefs, RefValue, entries_of, entry_bytes, extref_bytes, extrefs_of, ref_bytes, refs_of}
+use Rattle.blk_base.specs.Entries.{EntryValue, ExtRefValue, IsEntries, IsExtRefs, IsRefs, RefValue, entries_of, extrefs_of, refs_of}
 use Rattle.blk_base.specs.Keys.{dir_item}
 use Rattle.blk_base.specs.Leaf.{Item}
 use Rattle.item_laws.specs.Directories.{entries_to}

@@ -1,23 +1,20 @@
 -- The edits that take a name out make the subvolume without it.
-use Rattle.std.proofs.Common.{◌≡◌, ◌≢◌, ◌⊎◌, ◌∙◌, ◌+◌, ◌-◌, ◌*◌, ◌≤◌, ◌<◌, ◌^◌, ◌++◌, ℕ, Bool, true, false, List, [], ◌∷◌, length, take, drop, sum_by, Option, Some, None, IsSome, refl, sym, ap, subst, inl, inr, arith}
+use Rattle.std.proofs.Common.{◌≡◌, ◌≢◌, ◌⊎◌, ◌∙◌, ◌-◌, ◌*◌, ◌++◌, ℕ, Bool, true, false, List, [], ◌∷◌, length, take, drop, Option, Some, None, IsSome, refl, sym, ap, subst, inl, inr, arith}
 use Rattle.std.specs.Prelude.{Contains}
-use Rattle.std.specs.FinMap.{get}
 use Rattle.std.specs.List.{flat_map}
 use Rattle.std.specs.Option.{unwrap_or}
 use Rattle.std.proofs.lemmas.List.Elements.{Contains-append_cases, Contains-append_left, Contains-append_right}
 use Rattle.blk_base.specs.declared.key.Key.{Key}
 use Rattle.blk_base.specs.Crc.{extref_hash_of, name_hash_of}
 use Rattle.blk_base.specs.Entries.{EntryValue, ExtRefValue, IsEntries, IsExtRefs, IsRefs, RefValue, entry_bytes, extref_bytes, ref_bytes}
-use Rattle.blk_base.specs.ItemFaults.{IsEntriesKind}
 use Rattle.blk_base.specs.Items.{InodeValue, IsInode, dir_mode, inode_bytes}
 use Rattle.blk_base.specs.Keys.{dir_item, inode_extref, inode_item, inode_ref}
-use Rattle.blk_base.specs.Leaf.{Item}
 use Rattle.block_table.specs.declared.tree.Tree.{Tree}
 use Rattle.block_table.specs.Table.{Table}
 use Rattle.tree_range.specs.Between.{data_under}
 use Rattle.tree_range.specs.Shape.{tree_items, tree_reach}
 use Rattle.tree_frame.specs.Frame.{AreCurrent}
-use Rattle.flat_model.specs.Names.{FlatName, entries_of, links_of, remove_name}
+use Rattle.flat_model.specs.Names.{FlatName}
 use Rattle.flat_model.specs.Records.{DirInode}
 use Rattle.flat_model.specs.Volume.{Subvolume}
 use Rattle.flat_model.proofs.Maps.{some_none}
@@ -37,7 +34,7 @@ use Rattle.name_items.proofs.Found.{HasItem, has_item, one_inode}
 use Rattle.name_items.proofs.Inodes.{links_shrink, names_shrink, others_removed}
 use Rattle.name_items.proofs.NameEdit.{IsNaming, had_entries, nlink_links}
 use Rattle.name_items.proofs.Removing.{far_found, far_refs, far_removed, far_was, hashed_found, hashed_removed, hashed_spelled, hashed_was, index_there, indexed_removed, less_apart, less_held, near_found, near_refs, near_removed, near_was}
-use Rattle.name_items.proofs.Steps.{entries_bear, not_ref, other_kind, ref_bears, ref_is_far, ref_is_near, ref_kinds}
+use Rattle.name_items.proofs.Steps.{entries_bear, not_ref, ref_bears, ref_is_far, ref_is_near, ref_kinds}
 use Rattle.name_items.proofs.UnderKeys.{EntriesBefore, is_entries}
 
 -- bytes of an item are those that it was made of, and some

@@ -1,12 +1,11 @@
 -- What stands under the keys of a name, with it, and once it is gone.
-use Rattle.std.proofs.Common.{◌≡◌, ◌≢◌, ◌⊎◌, ◌∙◌, ◌+◌, ◌≤◌, ◌<◌, ◌^◌, ◌&&◌, ℕ, zero, suc, Bool, true, false, not, List, [], ◌∷◌, ◌++◌, length, map, take, drop, nat_eq, Option, Some, None, IsSome, refl, sym, ap, subst, inl, inr, arith}
+use Rattle.std.proofs.Common.{◌≡◌, ◌∙◌, ◌<◌, ◌^◌, ◌&&◌, ℕ, Bool, true, false, not, List, [], ◌∷◌, ◌++◌, map, take, drop, nat_eq, Option, None, IsSome, refl, sym, ap, subst, arith}
 use Rattle.std.specs.Prelude.{All, Contains, filter}
-use Rattle.std.specs.FinMap.{get}
 use Rattle.std.specs.List.Sorted.{IsPermutation}
 use Rattle.std.specs.Option.{unwrap_or}
 use Rattle.std.proofs.lemmas.Bool.{and_parts, eqb-true, false_from_ne_true, ne_eqb}
 use Rattle.std.proofs.lemmas.List.{map-append}
-use Rattle.std.proofs.lemmas.List.Elements.{All-contains_itself, All-weaker, Contains-append_cases, Contains-append_left, Contains-append_right}
+use Rattle.std.proofs.lemmas.List.Elements.{All-contains_itself, All-weaker, Contains-append_right}
 use Rattle.std.proofs.lemmas.List.Sorted.{Contains-permutation, IsPermutation-middle, IsPermutation-refl, IsPermutation-sym, IsPermutation-trans}
 use Rattle.blk_base.specs.declared.key.Key.{Key}
 use Rattle.blk_base.specs.Crc.{extref_hash_of, name_hash_of}
@@ -21,7 +20,6 @@ use Rattle.flat_model.specs.Volume.{Subvolume}
 use Rattle.flat_model.proofs.Maps.{some_none}
 use Rattle.flat_model.proofs.NameSets.{remove_name_gives}
 use Rattle.volume_image.specs.Subvolume.{Data, entry_of, extref_of, extrefs_asked, hashed_asked, indexed_asked, make_key, own_refs, ref_of, refs_asked, without_transid}
-use Rattle.volume_image.proofs.Lists.{in_nothing}
 use Rattle.volume_image.proofs.Members.{filter_in, in_filter, in_map, map_in, not_empty}
 use Rattle.volume_image.proofs.Reaches.{head_in}
 use Rattle.table_volume.specs.Keyed.{AsksIndexed, HoldsKey}
@@ -208,9 +206,9 @@ module _ (sub : Subvolume) (blocks : Data) (name : FlatName) (may : MayRemoveNam
       let p : FlatName → Bool = λ n. nat_eq n.dir name.dir && nat_eq n.index name.index in
       let left : List FlatName = remove_name name sub.names in
       let fails : All (λ (n : FlatName). p n ≡ false) left = All-weaker (Contains left) (λ (n : FlatName). p n ≡ false) (λ n c. false_from_ne_true (p n) (λ is.
-          let kept = remove_name_gives name sub.names n c in
-          let parts = and_parts (nat_eq n.dir name.dir) (nat_eq n.index name.index) is in
-          kept.1 (sym (may.index_once n kept.0 (eqb-true n.dir name.dir parts.0) (eqb-true n.index name.index parts.1))))) left (All-contains_itself left) in
+      let kept = remove_name_gives name sub.names n c in
+      let parts = and_parts (nat_eq n.dir name.dir) (nat_eq n.index name.index) is in
+      kept.1 (sym (may.index_once n kept.0 (eqb-true n.dir name.dir parts.0) (eqb-true n.index name.index parts.1))))) left (All-contains_itself left) in
       ap (map (entry_of sub)) (filter_none p left fails)
 
   pub indexed_removed : HoldsKey (without_name sub name) blocks (make_key name.dir dir_index name.index) None

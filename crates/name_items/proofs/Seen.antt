@@ -1,11 +1,11 @@
 -- Entries gone over one behind the other: those that were seen, and those that are left, one of which is wanted.
-use Rattle.std.proofs.Common.{◌≡◌, ◌≢◌, ◌⊎◌, ◌∙◌, ◌+◌, ◌≤◌, ℕ, List, [], ◌∷◌, ◌++◌, length, refl, sym, ap, subst, inl, inr, arith, append_assoc, length-append}
+use Rattle.std.proofs.Common.{◌≡◌, ◌∙◌, ◌+◌, ◌≤◌, ℕ, List, [], ◌∷◌, ◌++◌, length, refl, sym, ap, subst, inl, inr, arith, append_assoc, length-append}
 use Rattle.std.specs.Prelude.{Contains}
 use Rattle.std.specs.List.{flat_map}
 use Rattle.std.proofs.lemmas.Grind.{flat_map-append}
 use Rattle.std.proofs.lemmas.List.{append-nil}
 use Rattle.volume_image.proofs.Lists.{in_cons, in_nothing}
-use Rattle.name_items.specs.Places.{HasPlace, IsPlaced}
+use Rattle.name_items.specs.Places.{HasPlace}
 
 -- those that are left, from a byte on
 pub record IsLeft {E : Type 0} (spell : E → List ℕ) (Wanted : E → Type 0) (whole rest : List E) (at : ℕ) : Type 0 where

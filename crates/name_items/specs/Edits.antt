@@ -1,6 +1,6 @@
 -- What the edits of one call leave of the items of a name's inode and directory.
-use Rattle.std.specs.Prelude.{◌≡◌, ◌⊎◌, ◌+◌, ◌*◌, ◌==◌, ℕ, List, [], ◌++◌, length, Option, Some, if◌then◌else◌}
-use Rattle.blk_base.specs.Entries.{EntryValue, dir_entry, entry_bytes, file_entry, link_entry}
+use Rattle.std.specs.Prelude.{◌≡◌, ◌⊎◌, ◌==◌, ℕ, List, [], ◌++◌, Option, Some, if◌then◌else◌}
+use Rattle.blk_base.specs.Entries.{EntryValue, dir_entry, file_entry, link_entry}
 use Rattle.blk_base.specs.Items.{InodeValue, dir_mode, inode_bytes, link_mode}
 use Rattle.blk_base.specs.Keys.{inode_item}
 use Rattle.block_table.specs.declared.tree.Tree.{Tree}
@@ -9,7 +9,7 @@ use Rattle.tree_range.specs.Shape.{tree_items}
 use Rattle.flat_model.specs.Names.{FlatName}
 use Rattle.volume_image.specs.Subvolume.{make_key}
 use Rattle.item_edit.specs.ItemEdit.{IsItemEdit, bytes_under}
-use Rattle.name_items.specs.Names.{hashed_key, indexed_key, ref_entry, ref_key}
+use Rattle.name_items.specs.Names.{hashed_key, indexed_key, ref_key}
 
 -- the type of an entry of a directory ("DIR_ITEM": type)
 abbrev pub IsKindOfEntry : ℕ → Type 0

@@ -2,8 +2,7 @@
 use Rattle.std.specs.Prelude.{◌≡◌, ◌≢◌, ◌+◌, ℕ, List, ◌∷◌, ◌++◌, length, take, drop, true, false, Contains}
 use Rattle.std.specs.List.{flat_map}
 use Rattle.blk_base.specs.declared.key.Key.{Key}
-use Rattle.blk_base.specs.Entries.{EntryValue, ExtRefValue, IsEntries, IsExtRefs, IsRefs, RefValue, entry_bytes, extref_bytes, ref_bytes}
-use Rattle.blk_base.specs.Keys.{dir_item}
+use Rattle.blk_base.specs.Entries.{EntryValue, ExtRefValue, IsExtRefs, IsRefs, RefValue, extref_bytes, ref_bytes}
 use Rattle.blk_base.specs.Leaf.{Item}
 use Rattle.block_table.specs.declared.tree.Tree.{Tree}
 use Rattle.block_table.specs.Table.{Table}

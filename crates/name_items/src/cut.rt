@@ -20,12 +20,7 @@ use item_edit::cut_bytes;
 use item_inode::{ExtRefs, Refs};
 
 /// Where a near name lies in the item of its inode.
-fn near_place_in(
-    table: &BlockTable,
-    tree: &Tree,
-    key: &Key,
-    name: &NameEntry<'_>,
-) -> (usize, usize)
+fn near_place_in(table: &BlockTable, tree: &Tree, key: &Key, name: &NameEntry<'_>) -> (usize, usize)
     requires tree { IsTree table.now tree.now }
     requires there { (found : List RefValue) × IsRefs key.now (bytes_under key.now (tree_items table.now tree.now)) found × (entry : RefValue) × Contains found entry × IsRefNamed name.now.bytes.now entry }
     requires short { length (bytes_under key.now (tree_items table.now tree.now)) ≤ 3970 }
@@ -41,12 +36,7 @@ fn near_place_in(
 }
 
 /// Where a far name lies in the item of its inode.
-fn far_place_in(
-    table: &BlockTable,
-    tree: &Tree,
-    key: &Key,
-    name: &NameEntry<'_>,
-) -> (usize, usize)
+fn far_place_in(table: &BlockTable, tree: &Tree, key: &Key, name: &NameEntry<'_>) -> (usize, usize)
     requires tree { IsTree table.now tree.now }
     requires there { (found : List ExtRefValue) × IsExtRefs (bytes_under key.now (tree_items table.now tree.now)) found × (entry : ExtRefValue) × Contains found entry × IsFarNamed name.now.dir.0 name.now.bytes.now entry }
     requires short { length (bytes_under key.now (tree_items table.now tree.now)) ≤ 3970 }

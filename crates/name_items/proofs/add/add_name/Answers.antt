@@ -1,7 +1,7 @@
-use Rattle.std.proofs.Common.{◌≡◌, ◌≢◌, ◌∙◌, ◌+◌, ◌*◌, ◌≤◌, ◌<◌, ◌^◌, ◌++◌, ℕ, List, [], length, Option, Some, refl, sym, ap, subst, arith}
+use Rattle.std.proofs.Common.{◌≢◌, ◌+◌, ◌*◌, ◌≤◌, ◌++◌, ℕ, List, [], length, Option, Some, refl, sym, ap, subst, arith}
 use Rattle.std.specs.Option.{unwrap_or}
 use Rattle.blk_base.specs.Entries.{entry_bytes}
-use Rattle.blk_base.specs.Items.{InodeValue, dir_mode}
+use Rattle.blk_base.specs.Items.{InodeValue}
 use Rattle.blk_base.specs.Leaf.{Item}
 use Rattle.block_table.specs.declared.state.SlotState.TheVariants.{LetGo}
 use Rattle.block_table.specs.declared.tree.SubState.{SubState}
@@ -20,7 +20,7 @@ use Rattle.name_items.specs.Edits.{AddsEntries, IsDir, IsOther, NameEdits, kind_
 use Rattle.name_items.proofs.AddedName.{IsAdding, adding, listed_hashed}
 use Rattle.name_items.proofs.AskedLists.{with_name}
 use Rattle.name_items.proofs.NameEdit.{made_so}
-use Rattle.name_items.proofs.Found.{HasItem, entry_fits, has_item, nlink_small, ref_fits}
+use Rattle.name_items.proofs.Found.{entry_fits, has_item, nlink_small, ref_fits}
 use Rattle.name_items.proofs.Steps.{not_ref}
 use Rattle.name_items.proofs.add.add_name.Goals as goal
 

@@ -1,12 +1,10 @@
-use Rattle.std.proofs.Common.{◌≡◌, ◌∙◌, ◌≤◌, ◌<◌, ◌^◌, ℕ, List, length, Some, None, Ok, refl, sym, ap, subst, arith}
+use Rattle.std.proofs.Common.{◌≡◌, ◌∙◌, ◌≤◌, ◌<◌, ◌^◌, ℕ, List, length, Some, None, Ok, sym, ap, subst, arith}
 use Rattle.std.specs.Prelude.{Contains}
 use Rattle.std.specs.List.{flat_map}
 use Rattle.blk_base.specs.Entries.{EntryValue, entry_bytes}
 use Rattle.blk_base.specs.Leaf.{Item}
 use Rattle.tree_range.specs.Between.{data_under, data_view}
 use Rattle.tree_range.specs.Shape.{tree_items}
-use Rattle.item_edit.specs.ItemEdit.{bytes_under}
-use Rattle.item_edit.proofs.Changed.{bytes_there}
 use Rattle.name_items.specs.Places.{HasPlace, IsEntryNamed}
 use Rattle.name_items.proofs.Opened.{entries_read, entries_there}
 use Rattle.name_items.proofs.cut.entry_place_in.Goals as goal

@@ -1,12 +1,10 @@
-use Rattle.std.proofs.Common.{◌≡◌, ◌∙◌, ◌≤◌, ◌<◌, ◌^◌, ℕ, List, length, Some, None, Ok, refl, sym, ap, subst, arith}
+use Rattle.std.proofs.Common.{◌≡◌, ◌∙◌, ◌≤◌, ◌<◌, ◌^◌, ℕ, List, length, Some, Ok, sym, ap, subst, arith}
 use Rattle.std.specs.Prelude.{Contains}
 use Rattle.std.specs.List.{flat_map}
 use Rattle.blk_base.specs.Entries.{RefValue, ref_bytes}
 use Rattle.blk_base.specs.Leaf.{Item}
 use Rattle.tree_range.specs.Between.{data_under, data_view}
 use Rattle.tree_range.specs.Shape.{tree_items}
-use Rattle.item_edit.specs.ItemEdit.{bytes_under}
-use Rattle.item_edit.proofs.Changed.{bytes_there}
 use Rattle.name_items.specs.Places.{HasPlace, IsRefNamed}
 use Rattle.name_items.proofs.Opened.{refs_read}
 use Rattle.name_items.proofs.cut.near_place_in.Goals as goal

@@ -1,9 +1,9 @@
-use Rattle.std.proofs.Common.{◌≡◌, ◌≢◌, ◌∙◌, ◌+◌, ◌-◌, ◌*◌, ◌≤◌, ◌++◌, ℕ, List, [], length, take, drop, Option, Some, None, IsSome, refl, sym, ap, subst, arith}
+use Rattle.std.proofs.Common.{◌≢◌, ◌∙◌, ◌-◌, ◌*◌, ◌≤◌, ℕ, List, [], length, Option, None, IsSome, refl, sym, ap, subst, arith}
 use Rattle.std.specs.Prelude.{Contains}
 use Rattle.std.specs.Option.{unwrap_or}
 use Rattle.blk_base.specs.declared.key.Key.{Key}
 use Rattle.blk_base.specs.Entries.{EntryValue, IsEntries, entry_bytes}
-use Rattle.blk_base.specs.Items.{InodeValue, dir_mode}
+use Rattle.blk_base.specs.Items.{InodeValue}
 use Rattle.blk_base.specs.Keys.{dir_item}
 use Rattle.block_table.specs.declared.state.SlotState.TheVariants.{LetGo}
 use Rattle.block_table.specs.declared.tree.SubState.{SubState}
@@ -17,11 +17,11 @@ use Rattle.flat_model.specs.Records.{DirInode}
 use Rattle.item_inode.specs.Inode.{inode_view}
 use Rattle.item_edit.specs.ItemEdit.{HasInode, IsItemEdit, bytes_under, item_bytes}
 use Rattle.table_volume.specs.Gives.{tree_data}
-use Rattle.name_items.specs.Names.{hashed_key, indexed_key, name_of, ref_key}
+use Rattle.name_items.specs.Names.{hashed_key, indexed_key, name_of}
 use Rattle.name_items.specs.Edits.{IsDir, IsOther}
 use Rattle.name_items.specs.Places.{CutsEntry, IsEntryNamed}
 use Rattle.name_items.proofs.AskedLists.{without_name}
-use Rattle.name_items.proofs.Found.{HasItem, has_item, nlink_small, remove_entry_fits, remove_ref_fits}
+use Rattle.name_items.proofs.Found.{has_item, remove_entry_fits, remove_ref_fits}
 use Rattle.name_items.proofs.Inodes.{links_shrink, names_shrink}
 use Rattle.name_items.proofs.NameEdit.{made_so, nlink_links}
 use Rattle.name_items.proofs.RemovedName.{IsRemoving, has_hashed, has_indexed, has_ref, listed_bytes_left, ref_bytes_left, removing}
