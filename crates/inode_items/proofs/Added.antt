@@ -33,8 +33,6 @@ use Rattle.table_volume.specs.Keyed.{AsksAttributes, AsksExtRefs, AsksHashed, As
 use Rattle.table_volume.proofs.Changes.{record_written}
 use Rattle.table_volume.proofs.Changing.{change_holds}
 use Rattle.table_volume.proofs.Keyed.{found_under, keys_hold}
-use Rattle.item_edit.specs.ItemEdit.{BearsUnder, IsItemEdit}
-use Rattle.item_edit.proofs.Files.{now_here, now_other, same_files}
 use Rattle.name_items.proofs.Inodes.{elsewhere_holds, inode_holds}
 use Rattle.inode_items.specs.Inodes.{IsNewItem, MayAddInode, new_record}
 use Rattle.inode_items.specs.declared.add.NewInode.{NewInode}
@@ -281,10 +279,10 @@ module _ (old new : Table) (before after : Tree) (sub : Subvolume) (ino : ℕ) (
   extents i c = elim (in_cons ino i [] c) [
     | inl same ↦ subst (λ (i : ℕ). HoldsExtents (with_record sub ino inode) (tree_items new after) i) same (record {
       covered = λ file number block there has.
-      let none = h.no_blocks file (some_same inode (FileInode file) (sym (get_insert_same sub.inodes ino inode) ∙ there)) in
-      absurd (some_none block (sym has ∙ ap (λ (b : Blocks). get b number) none ∙ get-empty _ number));
+          let none = h.no_blocks file (some_same inode (FileInode file) (sym (get_insert_same sub.inodes ino inode) ∙ there)) in
+          absurd (some_none block (sym has ∙ ap (λ (b : Blocks). get b number) none ∙ get-empty _ number));
       apart = λ one two first second a b less.
-      absurd (some_none second (sym (found_under (tree_items new after) (make_key ino extent_data two) second h.whole.tree.order b) ∙ no_extent_now (make_key ino extent_data two) refl refl (λ e. absurd (omega (arith, less, e)))));
+          absurd (some_none second (sym (found_under (tree_items new after) (make_key ino extent_data two) second h.whole.tree.order b) ∙ no_extent_now (make_key ino extent_data two) refl refl (λ e. absurd (omega (arith, less, e)))));
     })
     | inr none ↦ absurd (in_nothing i none)
   ]

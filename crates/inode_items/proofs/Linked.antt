@@ -1,17 +1,13 @@
 -- A subvolume with one symlink more: its inode item, and its target in an extent.
-use Rattle.std.proofs.Common.{Bor, ◌≡◌, ◌≢◌, ◌⊎◌, ◌∙◌, ◌++◌, ◌||◌, ◌&&◌, ◌≤◌, ◌<◌, ◌^◌, ◌+◌, ℕ, Bool, true, false, List, [], ◌∷◌, Contains, Option, Some, None, Ok, Result, length, nat_eq, refl, sym, ap, subst, inl, inr, arith, append_assoc}
-use Rattle.std.specs.Prelude.{All, IsSome, filter}
+use Rattle.std.proofs.Common.{◌≡◌, ◌∙◌, ◌++◌, ◌≤◌, ◌<◌, ◌^◌, ℕ, List, [], ◌∷◌, Contains, Some, None, length, refl, sym, ap, subst, arith, append_assoc}
+use Rattle.std.specs.Prelude.{filter}
 use Rattle.std.specs.List.{flat_map}
-use Rattle.std.specs.FinMap.{get, insert}
-use Rattle.std.proofs.lemmas.Bool.{cases_eq, eq-eqb, eqb-true, true≢false, and_parts}
 use Rattle.std.proofs.lemmas.Grind.{flat_map-append}
 use Rattle.std.proofs.lemmas.List.Elements.{All-weaker}
-use Rattle.blk_base.specs.declared.fault.ItemFault.{ItemFault}
 use Rattle.blk_base.specs.declared.key.Key.{Key}
 use Rattle.blk_base.specs.Bytes.{field, number_bytes, zeros}
-use Rattle.blk_base.specs.Extents.{ExtentValue, Inline, Regular, IsExtent, extent_of, inline_bytes}
-use Rattle.blk_base.specs.ItemFaults.{IsEntriesKind}
-use Rattle.blk_base.specs.Keys.{KeyBelow, extent_data, inode_item, key_below, xattr_item}
+use Rattle.blk_base.specs.Extents.{Inline, IsExtent, inline_bytes}
+use Rattle.blk_base.specs.Keys.{KeyBelow, extent_data, inode_item, key_below}
 use Rattle.blk_base.specs.Leaf.{Item}
 use Rattle.blk_base.specs.Trees.{ItemsRise}
 use Rattle.block_table.specs.declared.tree.Tree.{Tree}
@@ -21,28 +17,23 @@ use Rattle.item_laws.specs.ExtentLaws.{extent_from, inline_reads_back}
 use Rattle.leaf_view.specs.KeyOrder.{KeyBelow_trans}
 use Rattle.leaf_view.proofs.Rising.{key_below_from}
 use Rattle.tree_range.specs.Between.{AreAbove, data_under}
-use Rattle.tree_range.specs.Shape.{IsTree, tree_items}
+use Rattle.tree_range.specs.Shape.{tree_items}
 use Rattle.tree_range.proofs.Rise.{rise_head, rise_tail}
 use Rattle.tree_range.proofs.Under.{filter_none, not_below}
 use Rattle.tree_frame.specs.Frame.{with_item}
 use Rattle.flat_model.specs.Operations.{with_record}
-use Rattle.flat_model.specs.Records.{FileInode, FileRecord, InodeRecord, LinkInode, LinkRecord, new_link}
+use Rattle.flat_model.specs.Records.{InodeRecord, new_link}
 use Rattle.flat_model.specs.Volume.{Subvolume}
 use Rattle.flat_model.proofs.Maps.{get_insert_same, some_none, some_same}
-use Rattle.volume_image.specs.Subvolume.{AreItemsOf, CoversBlock, Data, ExtentAsked, IsAsked, IsInodeOf, data_addresses, item_addresses, make_key}
+use Rattle.volume_image.specs.Subvolume.{ExtentAsked, IsInodeOf, data_addresses, item_addresses, make_key}
 use Rattle.volume_image.proofs.Reaches.{head_in, tail_in}
 use Rattle.table_volume.specs.Gives.{GivesSubvolume, data_in, tree_data}
-use Rattle.table_volume.specs.Keyed.{DoesAsk, HoldsExtents, HoldsKey, is_touched}
 use Rattle.table_volume.specs.TreeEdit.{IsTreeEdit}
-use Rattle.table_volume.proofs.Changes.{record_written}
-use Rattle.table_volume.proofs.Changing.{change_holds}
 use Rattle.table_volume.proofs.Items.{Lower, Same, Side, Upper, not_both, side}
 use Rattle.table_volume.proofs.Keyed.{found_under, keys_hold}
-use Rattle.table_volume.proofs.SubEdits.{tree_gives, tree_joined}
+use Rattle.table_volume.proofs.SubEdits.{tree_joined}
 use Rattle.item_edit.specs.ItemEdit.{BearsUnder, IsItemEdit}
 use Rattle.item_edit.proofs.Files.{now_here, now_other, same_files}
-use Rattle.name_items.proofs.Inodes.{elsewhere_holds, inode_holds}
-use Rattle.name_items.proofs.Steps.{key_is}
 use Rattle.inode_items.specs.Inodes.{MayAddInode}
 use Rattle.inode_items.proofs.Added.{IsAdding, IsPlain, no_extent, target_holds}
 
@@ -124,7 +115,7 @@ module _ (old mid new : Table) (before between after : Tree) (sub : Subvolume) (
     whole = whole;
     files = same;
     here = now_other mid new between after (make_key ino extent_data 0) (make_key ino inode_item 0) (Some (inline_bytes running target)) second (λ e. absurd (omega (arith, ap (λ (k : Key). k.kind) e)))
-    ∙ now_here old mid before between (make_key ino inode_item 0) (Some inode_said) first;
+        ∙ now_here old mid before between (make_key ino inode_item 0) (Some inode_said) first;
     extent = now_here mid new between after (make_key ino extent_data 0) (Some (inline_bytes running target)) second;
     elsewhere = λ key one two. now_other mid new between after (make_key ino extent_data 0) key (Some (inline_bytes running target)) second two ∙ now_other old mid before between (make_key ino inode_item 0) key (Some inode_said) first one;
     right = right;
@@ -132,7 +123,7 @@ module _ (old mid new : Table) (before between after : Tree) (sub : Subvolume) (
     no_blocks = λ file e. absurd cc;
     said = record {
       only = λ bytes e. ExtentAsked (new_link target) refl (get_insert_same sub.inodes ino (new_link target))
-      (subst (λ (b : List ℕ). IsExtent (make_key ino extent_data 0) b (Inline target)) (some_same (inline_bytes running target) bytes e) (target_said ino running target some short));
+          (subst (λ (b : List ℕ). IsExtent (make_key ino extent_data 0) b (Inline target)) (some_same (inline_bytes running target) bytes e) (target_said ino running target some short));
       all = λ asks. refl;
     };
   }
@@ -148,8 +139,8 @@ plain_adding old new before after sub ino inode running bytes gives may plain ed
   files = same_files old new before after (make_key ino inode_item 0) (Some bytes) gives.tree_in edit (λ e. absurd (omega (arith, e)));
   here = now_here old new before after (make_key ino inode_item 0) (Some bytes) edit;
   extent = now_other old new before after (make_key ino inode_item 0) (make_key ino extent_data 0) (Some bytes) edit (λ same. absurd (omega (arith, ap (λ (k : Key). k.kind) same)))
-  ∙ no_extent sub ino may (data_in old) (make_key ino extent_data 0) (data_under (make_key ino extent_data 0) (tree_items old before)) refl refl
-  (keys_hold (tree_items old before) (data_in old) sub gives.tree_in.order gives.items (make_key ino extent_data 0));
+      ∙ no_extent sub ino may (data_in old) (make_key ino extent_data 0) (data_under (make_key ino extent_data 0) (tree_items old before)) refl refl
+      (keys_hold (tree_items old before) (data_in old) sub gives.tree_in.order gives.items (make_key ino extent_data 0));
   elsewhere = λ key one two. now_other old new before after (make_key ino inode_item 0) key (Some bytes) edit one;
   right = right;
   attributes = plain.attributes;

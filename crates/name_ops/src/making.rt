@@ -106,12 +106,7 @@ fn copy_text(text: &Text, into: &mut [u8; MOST_TARGET_BYTES]) -> usize
 
 /// Makes a symlink with this target, of 1 to 1023 bytes, and answers its inode number ("INODE_ITEM" and "EXTENT_DATA" of
 /// the on-disk format).
-pub fn symlink(
-    table: &mut BlockTable,
-    sub: &mut SubState,
-    path: &Path,
-    target: &Text,
-) -> Answer
+pub fn symlink(table: &mut BlockTable, sub: &mut SubState, path: &Path, target: &Text) -> Answer
     requires given { (run : RunSub) × GivesRun table.old sub.old run }
     requires some { 1 ≤ length target.now }
     requires short { length target.now ≤ 1023 }

@@ -1,4 +1,4 @@
-use Rattle.std.proofs.Common.{◌≡◌, ◌∙◌, ℕ, List, refl, sym, ap, subst, arith}
+use Rattle.std.proofs.Common.{◌≡◌, ℕ, List, refl, sym, ap, subst, arith}
 use Rattle.blk_base.specs.Items.{InodeValue, inode_bytes}
 use Rattle.block_table.specs.declared.tree.SubState.{SubState}
 use Rattle.block_table.specs.declared.tree.Tree.{Tree}
@@ -11,8 +11,7 @@ use Rattle.table_volume.proofs.SubEdits.{sub_more, tree_as_sub}
 use Rattle.volume_image.specs.Subvolume.{IsInodeOf}
 use Rattle.name_items.proofs.Steps.{inode_bears}
 use Rattle.inode_items.specs.Inodes.{KeepsNewLimits, new_record}
-use Rattle.inode_items.specs.declared.add.NewInode.{NewInode}
-use Rattle.inode_items.proofs.Added.{IsAdding, added_gives, new_is_plain, new_item_of, new_mode}
+use Rattle.inode_items.proofs.Added.{added_gives, new_is_plain, new_item_of, new_mode}
 use Rattle.inode_items.proofs.Linked.{link_adding, plain_adding}
 use Rattle.inode_items.proofs.add.add_inode.Goals as goal
 
