@@ -63,7 +63,8 @@ fn link_in_slot(
     dir: u64,
     name: &[u8],
 ) -> Answer
-    requires given { (run : RunSub) × GivesRun table.old sub.old run × (walk run.sub old.now ≡ end_view from.now) × (walk run.sub new.now ≡ AtSlot dir name.now None)
+    requires given { (run : RunSub) × GivesRun table.old sub.old run × (walk run.sub old.now ≡ end_view from.now)
+        × (walk run.sub new.now ≡ AtSlot dir name.now None)
         × (first_answer (link_tests run (end_view from.now) (AtSlot dir name.now None)) ≡ None) }
     requires old { IsPath old.now }
     requires new { IsPath new.now }
@@ -85,7 +86,8 @@ fn link_in_slot(
 pub fn link(table: &mut BlockTable, sub: &mut SubState, old: &Path, new: &Path) -> Answer
     requires given { (run : RunSub) × GivesRun table.old sub.old run }
     requires room { HasRoom table.old 512 }
-    ensures { (run : RunSub) → GivesRun table.old sub.old run → IsOperated table.old table.new sub.old sub.new run (link run old.now new.now sub.old.next_index) result 512 }
+    ensures { (run : RunSub) → GivesRun table.old sub.old run
+        → IsOperated table.old table.new sub.old sub.new run (link run old.now new.now sub.old.next_index) result 512 }
 {
     let from = walk(table, &sub.tree, old);
     let to = walk(table, &sub.tree, new);

@@ -30,11 +30,13 @@ fn make_in_slot(
     dir: u64,
     name: &[u8],
 ) -> Answer
-    requires given { (run : RunSub) × GivesRun table.old sub.old run × (walk run.sub path.now ≡ AtSlot dir name.now None) × (first_answer (make_tests run (AtSlot dir name.now None)) ≡ None) }
+    requires given { (run : RunSub) × GivesRun table.old sub.old run × (walk run.sub path.now ≡ AtSlot dir name.now None)
+        × (first_answer (make_tests run (AtSlot dir name.now None)) ≡ None) }
     requires path { IsPath path.now }
     requires new { KeepsNewLimits new }
     requires room { HasRoom table.old 512 }
-    ensures { (run : RunSub) → GivesRun table.old sub.old run → walk run.sub path.now ≡ AtSlot dir name.now None → first_answer (make_tests run (AtSlot dir name.now None)) ≡ None
+    ensures { (run : RunSub) → GivesRun table.old sub.old run → walk run.sub path.now ≡ AtSlot dir name.now None
+        → first_answer (make_tests run (AtSlot dir name.now None)) ≡ None
         → IsOperated table.old table.new sub.old sub.new run (make run path.now (new_record new.entry) sub.old.next_index) result 512 }
 {
     let ino = sub.next_ino;
@@ -54,7 +56,8 @@ fn make(table: &mut BlockTable, sub: &mut SubState, path: &Path, new: NewInode<'
     requires given { (run : RunSub) × GivesRun table.old sub.old run }
     requires new { KeepsNewLimits new }
     requires room { HasRoom table.old 512 }
-    ensures { (run : RunSub) → GivesRun table.old sub.old run → IsOperated table.old table.new sub.old sub.new run (make run path.now (new_record new.entry) sub.old.next_index) result 512 }
+    ensures { (run : RunSub) → GivesRun table.old sub.old run
+        → IsOperated table.old table.new sub.old sub.new run (make run path.now (new_record new.entry) sub.old.next_index) result 512 }
 {
     let end = walk(table, &sub.tree, path);
     if let Some(answer) = make_refusal(sub, &end) {
@@ -73,7 +76,8 @@ fn make(table: &mut BlockTable, sub: &mut SubState, path: &Path, new: NewInode<'
 pub fn create(table: &mut BlockTable, sub: &mut SubState, path: &Path) -> Answer
     requires given { (run : RunSub) × GivesRun table.old sub.old run }
     requires room { HasRoom table.old 512 }
-    ensures { (run : RunSub) → GivesRun table.old sub.old run → IsOperated table.old table.new sub.old sub.new run (make run path.now new_file sub.old.next_index) result 512 }
+    ensures { (run : RunSub) → GivesRun table.old sub.old run
+        → IsOperated table.old table.new sub.old sub.new run (make run path.now new_file sub.old.next_index) result 512 }
 {
     make(table, sub, path, NewInode::File)
 }
@@ -82,7 +86,8 @@ pub fn create(table: &mut BlockTable, sub: &mut SubState, path: &Path) -> Answer
 pub fn mkdir(table: &mut BlockTable, sub: &mut SubState, path: &Path) -> Answer
     requires given { (run : RunSub) × GivesRun table.old sub.old run }
     requires room { HasRoom table.old 512 }
-    ensures { (run : RunSub) → GivesRun table.old sub.old run → IsOperated table.old table.new sub.old sub.new run (make run path.now new_dir sub.old.next_index) result 512 }
+    ensures { (run : RunSub) → GivesRun table.old sub.old run
+        → IsOperated table.old table.new sub.old sub.new run (make run path.now new_dir sub.old.next_index) result 512 }
 {
     make(table, sub, path, NewInode::Dir)
 }
@@ -111,7 +116,8 @@ pub fn symlink(table: &mut BlockTable, sub: &mut SubState, path: &Path, target: 
     requires some { 1 ≤ length target.now }
     requires short { length target.now ≤ 1023 }
     requires room { HasRoom table.old 512 }
-    ensures { (run : RunSub) → GivesRun table.old sub.old run → IsOperated table.old table.new sub.old sub.new run (make run path.now (new_link target.now) sub.old.next_index) result 512 }
+    ensures { (run : RunSub) → GivesRun table.old sub.old run
+        → IsOperated table.old table.new sub.old sub.new run (make run path.now (new_link target.now) sub.old.next_index) result 512 }
 {
     let mut bytes = [0; MOST_TARGET_BYTES];
     let count = copy_text(target, &mut bytes);

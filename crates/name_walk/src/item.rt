@@ -122,7 +122,8 @@ pub fn entries_at<'t>(
     hash: u32,
 ) -> Option<Entries<'t>>
     requires { IsTree table.now tree.now }
-    ensures same { (sub : Subvolume) → GivesSubvolume table.now tree.now sub → IsPermutation (map without_transid (unwrap_or result [])) (hashed_asked sub dir hash) }
+    ensures same { (sub : Subvolume) → GivesSubvolume table.now tree.now sub
+        → IsPermutation (map without_transid (unwrap_or result [])) (hashed_asked sub dir hash) }
     ensures names { All (λ e. IsName e.name) (unwrap_or result []) }
 {
     match hashed_bytes(table, tree, dir, hash) {

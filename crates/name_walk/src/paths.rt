@@ -46,7 +46,8 @@ fn slot_step<'p>(table: &BlockTable, tree: &Tree, dir: u64, name: &'p [u8]) -> S
 /// Where a path leads that goes on from such a step by one name.
 fn next_step<'p>(table: &BlockTable, tree: &Tree, step: Step<'p>, name: &'p [u8]) -> Step<'p>
     requires { IsTree table.now tree.now }
-    ensures { (sub : Subvolume) (end : WalkEnd) → GivesCoherent table.now tree.now sub → IsStep sub end step.entry → IsStep sub (next_end sub end name.now) result }
+    ensures { (sub : Subvolume) (end : WalkEnd) → GivesCoherent table.now tree.now sub → IsStep sub end step.entry
+        → IsStep sub (next_end sub end name.now) result }
 {
     match step {
         Step::Root => slot_step(table, tree, FIRST_FREE, name),

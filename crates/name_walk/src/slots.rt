@@ -64,7 +64,8 @@ fn far_named(refs: ExtRefs<'_>, dir: u64, name: &[u8]) -> Option<u64>
 /// The inode to which the name in a slot leads, where the slot has one.
 pub(crate) fn lead_at(table: &BlockTable, tree: &Tree, dir: u64, name: &[u8]) -> Option<Lead>
     requires { IsTree table.now tree.now }
-    ensures { (sub : Subvolume) → GivesCoherent table.now tree.now sub → MatchOption result (name_in_slot sub.names dir name.now ≡ None) (IsLead sub dir name.now) }
+    ensures { (sub : Subvolume) → GivesCoherent table.now tree.now sub
+        → MatchOption result (name_in_slot sub.names dir name.now ≡ None) (IsLead sub dir name.now) }
 {
     let entries = entries_at(table, tree, dir, name_hash(name))?;
     let entry = entry_named(entries, name)?;
