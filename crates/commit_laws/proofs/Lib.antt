@@ -1,0 +1,6 @@
+pub mod Roles
+pub mod Standing
+pub mod Quiet
+pub mod Parts
+pub mod Done
+pub mod Sane
