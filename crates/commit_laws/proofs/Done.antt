@@ -1,24 +1,22 @@
 -- Root commits and full commits that are done.
-use Rattle.std.proofs.Common.{◌≡◌, ◌≢◌, ℕ, ◌<◌, ◌≤◌, ◌+◌, ◌-◌, ◌||◌, Bool, true, false, cond, not, List, [], ◌∷◌, Option, Some, None, refl, sym, ap, subst, ◌∙◌, arith, inl, inr, ◌⊎◌}
-use Rattle.std.specs.Bool.{nat_eq, nat_le, ⊤}
-use Rattle.std.specs.List.{Contains, filter, list_any}
-use Rattle.std.specs.FinMap.{get}
-use Rattle.std.proofs.lemmas.Bool.{cases_eq, cases_Bool, ne_eqb, eq-eqb, eqb-true, true≢false, not-true, leb-true, leb-false, or_left}
+use Rattle.std.proofs.Common.{◌≡◌, ◌≢◌, ℕ, ◌<◌, ◌||◌, Bool, true, false, cond, not, List, [], Option, Some, None, refl, sym, ap, subst, ◌∙◌, arith, inl, inr}
+use Rattle.std.specs.Bool.{nat_eq, nat_le}
+use Rattle.std.specs.List.{Contains, list_any}
+use Rattle.std.proofs.lemmas.Bool.{cases_eq, cases_Bool, eq-eqb, true≢false, not-true, leb-true, leb-false, or_left}
 use Rattle.flat_model.specs.Volume.{Subvolume}
 use Rattle.flat_model.proofs.Lists.{contains_none, contains_filter, filter_contains}
 use Rattle.flat_model.proofs.Maps.{some_same, some_none}
 use Rattle.logged_volume.proofs.Members.{any_from}
-use Rattle.commit_history.specs.declared.event.Event.{Event}
 use Rattle.commit_history.specs.declared.event.Event.TheVariants as event
 use Rattle.commit_history.specs.State.{Slot, SubLog, Ticket, RootCommit, FullCommit, State, HasLog, number_taken, is_taken}
-use Rattle.commit_history.specs.Effects.{after, log_after, log_covered, log_committed, log_taken, log_with, sub_sealed, slots_above, undurable_above, wants_at_seal, wants_left, has_ticket}
+use Rattle.commit_history.specs.Effects.{after, log_after, log_committed, log_taken, log_with, sub_sealed, undurable_above, wants_at_seal, has_ticket}
 use Rattle.commit_history.specs.Legal.{HoldsRoot, HoldsFull}
 use Rattle.commit_history.specs.Calls.{Part, Unsealed, Sealed, Written, InRoot, GaveUp}
-use Rattle.commit_history.proofs.LogNumbers.{log_before, log_afterwards}
-use Rattle.commit_history.proofs.StateHolding.{either, logs_after}
+use Rattle.commit_history.proofs.LogNumbers.{log_afterwards}
+use Rattle.commit_history.proofs.StateHolding.{logs_after}
 use Rattle.commit_history.proofs.LogHolding.{IsUncovered}
 use Rattle.commit_laws.proofs.Roles.{Role, Idle, Holds, Wants, root_role, full_role, EndsRootFrom}
-use Rattle.commit_laws.proofs.Standing.{RootHeld, FullHeld, SlotHeld, WantHeld, LogStands, HasTicket, HasSlot, OwnPart, OwnTurn, Own, Stands}
+use Rattle.commit_laws.proofs.Standing.{SlotHeld, LogStands, HasTicket, HasSlot, OwnPart, OwnTurn, Own, Stands}
 use Rattle.commit_laws.proofs.Quiet.{slot_before}
 
 -- ---- the log once a root commit took a number, where it took one
@@ -65,7 +63,7 @@ taken_stands failures (Some most) log bound stands = record {
 
 module _ (state : State) (role next : ℕ → Role) (stands : Stands state role) (by : ℕ) where
   module _ (bounds : (id : ℕ) (log : SubLog) (number : ℕ) → HasLog state id log → number_taken state.root id ≡ Some number → IsUncovered log number) (full_is_free : state.full ≡ None) (others : (caller : ℕ) → caller ≢ by → next caller ≡ root_role state (role caller))
-    (may : HoldsRoot state by) (acts : EndsRootFrom (role by) (next by)) where
+      (may : HoldsRoot state by) (acts : EndsRootFrom (role by) (next by)) where
     own_taken : is_taken state.root acts.sub acts.number ≡ true
     own_taken =
         let held = stands.root_held may.commit may.runs in
@@ -80,11 +78,11 @@ module _ (state : State) (role next : ℕ → Role) (stands : Stands state role)
     slot_left_held id log has slot c not_taken =
         let held = stands.slot_held id log has slot c in
         let other : slot.holder ≢ by = λ same.
-            let at : role by ≡ Holds id slot.number held.part = ap role (sym same) ∙ held.is in
-            let was : role by ≡ Holds acts.sub acts.number InRoot = acts.was in
-            let one : acts.sub ≡ id = cc in
-            let two : acts.number ≡ slot.number = cc in
-            true≢false (sym own_taken ∙ ap (λ s. is_taken state.root s acts.number) one ∙ ap (is_taken state.root id) two ∙ not_taken) in
+        let at : role by ≡ Holds id slot.number held.part = ap role (sym same) ∙ held.is in
+        let was : role by ≡ Holds acts.sub acts.number InRoot = acts.was in
+        let one : acts.sub ≡ id = cc in
+        let two : acts.number ≡ slot.number = cc in
+        true≢false (sym own_taken ∙ ap (λ s. is_taken state.root s acts.number) one ∙ ap (is_taken state.root id) two ∙ not_taken) in
         record {
           part = held.part;
           is = others slot.holder other ∙ ap (root_role state) held.is ∙ ap (λ b. cond b Idle (Holds id slot.number held.part)) not_taken;
@@ -141,9 +139,9 @@ module _ (state : State) (role next : ℕ → Role) (stands : Stands state role)
       want_held = λ caller c.
           let held = stands.want_held caller c in
           let other : caller ≢ by = λ same.
-              let at : role caller ≡ Wants held.sealed = held.is in
-              let was : role caller ≡ Holds acts.sub acts.number InRoot = ap role same ∙ acts.was in
-              cc in
+          let at : role caller ≡ Wants held.sealed = held.is in
+          let was : role caller ≡ Holds acts.sub acts.number InRoot = ap role same ∙ acts.was in
+          cc in
           record { sealed = held.sealed; is = others caller other ∙ ap (root_role state) held.is };
       own = λ caller. elim (cases_eq caller by) [
         | inl same ↦ subst (Own later caller) (sym (ap next same ∙ acts.is)) tt
@@ -154,7 +152,7 @@ module _ (state : State) (role next : ℕ → Role) (stands : Stands state role)
   -- ---- a full commit
 
   module _ (root_is_free : state.root ≡ None) (no_slots : (id : ℕ) (log : SubLog) → HasLog state id log → log.slots ≡ []) (sealed : (id : ℕ) (log : SubLog) → HasLog state id log → (sub : Subvolume) × (sub_sealed state.full id ≡ Some sub))
-    (others : (caller : ℕ) → caller ≢ by → next caller ≡ full_role state caller (role caller)) (may : HoldsFull state by) (was : role by ≡ Wants true) (is : next by ≡ Idle) where
+      (others : (caller : ℕ) → caller ≢ by → next caller ≡ full_role state caller (role caller)) (may : HoldsFull state by) (was : role by ≡ Wants true) (is : next by ≡ Idle) where
     with_slots : (o : Option Subvolume) (log : SubLog) → (log_with o log).slots ≡ log.slots
     with_slots None log = refl
     with_slots (Some sub) log = refl

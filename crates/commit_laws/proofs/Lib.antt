@@ -4,3 +4,5 @@ pub mod Quiet
 pub mod Parts
 pub mod Done
 pub mod Sane
+pub mod Reaching
+pub mod Going

@@ -1,24 +1,23 @@
 -- Events of a caller that holds a part, a want or a turn: a part that is written or given up, seals of commits, and failures.
-use Rattle.std.proofs.Common.{◌≡◌, ◌≢◌, ℕ, ◌<◌, ◌≤◌, ◌+◌, Bool, true, false, cond, not, List, [], ◌∷◌, ◌++◌, map, Option, Some, None, refl, sym, ap, subst, ◌∙◌, arith, inl, inr, ◌⊎◌}
-use Rattle.std.specs.Bool.{nat_eq, nat_le, ⊤}
-use Rattle.std.specs.List.{Contains, filter, list_any}
+use Rattle.std.proofs.Common.{◌≡◌, ◌≢◌, ℕ, ◌<◌, ◌+◌, Bool, true, false, cond, not, List, [], ◌∷◌, map, Option, Some, None, refl, sym, ap, subst, ◌∙◌, arith, inl, inr, ◌⊎◌}
+use Rattle.std.specs.Bool.{nat_eq, ⊤}
+use Rattle.std.specs.List.{Contains, filter}
 use Rattle.std.specs.FinMap.{get}
-use Rattle.std.proofs.lemmas.Bool.{cases_eq, cases_Bool, ne_eqb, eq-eqb, eqb-true, true≢false, not-true}
+use Rattle.std.proofs.lemmas.Bool.{cases_eq, ne_eqb, eq-eqb, eqb-true, true≢false, not-true}
 use Rattle.blk_base.specs.declared.key.SubId.{SubId}
 use Rattle.flat_model.proofs.Lists.{contains_head, contains_tail, contains_cases, contains_none, contains_filter, filter_contains}
 use Rattle.flat_model.proofs.Maps.{some_same, some_none}
 use Rattle.flat_model.specs.Volume.{volume_of}
-use Rattle.commit_history.specs.declared.event.Event.{Event}
 use Rattle.commit_history.specs.declared.event.Event.TheVariants as event
 use Rattle.commit_history.specs.declared.event.Turn.{Turn}
-use Rattle.commit_history.specs.State.{Slot, SubLog, Ticket, RootCommit, FullCommit, State, HasLog, is_taken}
-use Rattle.commit_history.specs.Effects.{after, log_after, slots_written, slots_without, slots_without_holder, root_without, full_without, without, numbers_ready}
-use Rattle.commit_history.specs.Legal.{MayBeWritten, MayGiveUp, MaySealRoot, MaySealFull, HoldsRoot, HoldsFull}
+use Rattle.commit_history.specs.State.{Slot, SubLog, RootCommit, FullCommit, State, HasLog, is_taken}
+use Rattle.commit_history.specs.Effects.{after, log_after, slots_written, slots_without, root_without, full_without, numbers_ready}
+use Rattle.commit_history.specs.Legal.{MayBeWritten, MayGiveUp, MaySealRoot, MaySealFull}
 use Rattle.commit_history.specs.Calls.{Part, Unsealed, Sealed, Written, InRoot, GaveUp}
-use Rattle.commit_history.proofs.LogNumbers.{log_before, log_afterwards}
+use Rattle.commit_history.proofs.LogNumbers.{log_afterwards}
 use Rattle.commit_history.proofs.StateHolding.{either, logs_after, root_without_was, full_without_was}
-use Rattle.commit_laws.proofs.Roles.{Role, Idle, Holds, Wants, IsLoose, HasOwnSlot, BeginsRoot, SealsRootFrom, GivesUpFrom}
-use Rattle.commit_laws.proofs.Standing.{RootHeld, FullHeld, IsPartOf, SlotHeld, WantHeld, LogStands, HasTicket, HasSlot, Own, Stands, Leaves, Moves, moved}
+use Rattle.commit_laws.proofs.Roles.{Role, Idle, Holds, Wants, HasOwnSlot, BeginsRoot, SealsRootFrom, GivesUpFrom}
+use Rattle.commit_laws.proofs.Standing.{RootHeld, FullHeld, IsPartOf, SlotHeld, LogStands, HasTicket, Own, Stands, moved}
 use Rattle.commit_laws.proofs.Quiet.{LogGrown, kept_same, kept_grown, ticket_left, slot_left, slot_before, still_there, one_of_others}
 
 -- ---- lists
@@ -172,12 +171,15 @@ module _ (state : State) (role next : ℕ → Role) (stands : Stands state role)
           slot = λ id n part written here has. slot_left state e caller id n written (λ log own c. still caller other id n written log own c (nat_eq id sub.0) refl) has;
           want = λ c. c;
         };
-        own = subst (Own (after state e) by) (sym is) (ticket_left state e by sub.0 number (λ log own. grown sub.0 log) (λ c. c) (subst (Own state by) was (stands.own by)).0, record {
-          log = log_after state e sub.0 may.log;
-          of_sub = log_afterwards state e sub.0 may.log may.of_sub;
-          slot = subst (λ b. Contains (cond b (record may.log { slots = slots_written may.log.slots number }) may.log).slots (record { number = number; holder = by; written = true })) (sym (eq-eqb sub.0 sub.0 refl))
-              (subst (Contains (slots_written may.log.slots number)) (mark_own number by false) (map_has (mark number) may.log.slots (record { number = number; holder = by; written = false }) may.slot));
-        });
+        own = subst (Own (after state e) by) (sym is) (
+          ticket_left state e by sub.0 number (λ log own. grown sub.0 log) (λ c. c) (subst (Own state by) was (stands.own by)).0,
+          record {
+            log = log_after state e sub.0 may.log;
+            of_sub = log_afterwards state e sub.0 may.log may.of_sub;
+            slot = subst (λ b. Contains (cond b (record may.log { slots = slots_written may.log.slots number }) may.log).slots (record { number = number; holder = by; written = true })) (sym (eq-eqb sub.0 sub.0 refl))
+                (subst (Contains (slots_written may.log.slots number)) (mark_own number by false) (map_has (mark number) may.log.slots (record { number = number; holder = by; written = false }) may.slot));
+          },
+        );
       })
     where
       mine : Slot

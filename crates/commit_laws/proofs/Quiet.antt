@@ -1,9 +1,9 @@
 -- Events of a caller that holds no turn, no slot and no want: operations, log steps, asks and seals of a number.
-use Rattle.std.proofs.Common.{◌≡◌, ◌≢◌, ℕ, ◌<◌, ◌≤◌, ◌+◌, Bool, true, false, cond, not, List, [], ◌∷◌, ◌++◌, Option, Some, None, refl, sym, ap, subst, ◌∙◌, arith, inl, inr, ◌⊎◌}
-use Rattle.std.specs.Bool.{nat_eq, nat_le, ⊤}
+use Rattle.std.proofs.Common.{◌≡◌, ◌≢◌, ℕ, ◌<◌, ◌≤◌, Bool, true, false, cond, not, List, [], ◌∷◌, ◌++◌, Option, Some, None, refl, sym, ap, subst, ◌∙◌, arith, inl, inr, ◌⊎◌}
+use Rattle.std.specs.Bool.{nat_eq}
 use Rattle.std.specs.List.{Contains, filter, list_any}
 use Rattle.std.specs.FinMap.{get}
-use Rattle.std.proofs.lemmas.Bool.{cases_eq, cases_Bool, ne_eqb, eq-eqb, eqb-true, true≢false, not-true}
+use Rattle.std.proofs.lemmas.Bool.{cases_eq, ne_eqb, eq-eqb, eqb-true, true≢false, not-true}
 use Rattle.std.proofs.lemmas.List.Elements.{Contains-append_left, Contains-append_right, Contains-append_cases}
 use Rattle.blk_base.specs.declared.key.SubId.{SubId}
 use Rattle.blk_base.specs.declared.key.Ino.{Ino}
@@ -12,23 +12,23 @@ use Rattle.flat_model.specs.declared.op.Op.{Op}
 use Rattle.flat_model.specs.declared.place.Place.{Place}
 use Rattle.flat_model.specs.Volume.{Subvolume, RunSub}
 use Rattle.flat_model.proofs.Lists.{contains_head, contains_tail, contains_cases, contains_none, contains_filter, filter_contains}
-use Rattle.flat_model.proofs.Maps.{some_same, some_none}
+use Rattle.flat_model.proofs.Maps.{some_same}
 use Rattle.logged_volume.specs.Rules.{RoomNumbers}
-use Rattle.logged_volume.proofs.Members.{any_from, any_gives}
+use Rattle.logged_volume.proofs.Members.{any_gives}
 use Rattle.commit_history.specs.declared.event.Event.{Event}
 use Rattle.commit_history.specs.declared.event.Event.TheVariants as event
 use Rattle.commit_history.specs.declared.event.Logged.{Logged}
 use Rattle.commit_history.specs.declared.event.Logged.TheVariants as logged
 use Rattle.commit_history.specs.declared.event.OpEnd.{OpEnd}
 use Rattle.commit_history.specs.declared.event.OpEnd.TheVariants as ends
-use Rattle.commit_history.specs.State.{Slot, SubLog, Ticket, RootCommit, FullCommit, State, HasLog, is_slot_busy}
-use Rattle.commit_history.specs.Effects.{after, log_after, log_after_step, log_sealed, log_stepped, wanting, wants_after_op, state_after_step}
-use Rattle.commit_history.specs.Legal.{MayLog, MaySealSub, IsLogEnd, GetsTicket, IsTicketOf, IsOpen, IsNewest, HoldsRoot, HoldsFull}
-use Rattle.commit_history.specs.Calls.{Part, Unsealed, Sealed, Written, InRoot, GaveUp}
+use Rattle.commit_history.specs.State.{Slot, SubLog, Ticket, RootCommit, FullCommit, State, HasLog}
+use Rattle.commit_history.specs.Effects.{after, log_after, log_after_step, log_sealed, log_stepped, wanting, wants_after_op}
+use Rattle.commit_history.specs.Legal.{MayLog, MaySealSub, IsLogEnd, GetsTicket, IsTicketOf, IsOpen, IsNewest}
+use Rattle.commit_history.specs.Calls.{Unsealed, Sealed}
 use Rattle.commit_history.proofs.LogNumbers.{log_before, log_afterwards}
 use Rattle.commit_history.proofs.StateHolding.{either, logs_after}
-use Rattle.commit_laws.proofs.Roles.{Role, Idle, Holds, Wants, IsLoose, Acts, op_role, log_role}
-use Rattle.commit_laws.proofs.Standing.{RootHeld, FullHeld, SlotHeld, WantHeld, LogStands, HasTicket, HasSlot, Own, Stands, loose_slot, loose_want, loose_root, loose_full, Leaves, Moves, moved}
+use Rattle.commit_laws.proofs.Roles.{Role, Idle, Holds, Wants, IsLoose, op_role, log_role}
+use Rattle.commit_laws.proofs.Standing.{SlotHeld, WantHeld, LogStands, HasTicket, HasSlot, Own, Stands, loose_slot, loose_want, loose_root, loose_full, moved}
 
 -- ---- wants
 
@@ -303,13 +303,16 @@ module _ (state : State) (role next : ℕ → Role) (stands : Stands state role)
       quiet_stands state role next stands by others loose (event.Log by sub ino (logged.Ticket number) datasync) (log_kept sub ino (logged.Ticket number) datasync) refl refl
       (logs_after state (event.Log by sub ino (logged.Ticket number) datasync) (λ id log. LogStands state.failures log) (log_logs sub ino (logged.Ticket number) datasync may))
       (one_with state role next stands by others new refl) (λ ticket other c. contains_tail new (other_tickets state role next stands by others) ticket (still_there state role next stands by others ticket other c)) (λ caller c. c) (λ caller c. inl c)
-      (subst (Own (after state (event.Log by sub ino (logged.Ticket number) datasync)) by) (sym is) (record {
-        ticket = contains_head new (other_tickets state role next stands by others);
-        log = log_after state (event.Log by sub ino (logged.Ticket number) datasync) sub.0 may.log;
-        of_sub = log_afterwards state (event.Log by sub ino (logged.Ticket number) datasync) sub.0 may.log may.of_sub;
-        above = let a = own.0 in let k = kept.covered in omega (arith, a, k);
-        up_to_open = let b = own.1 in let k = kept.open_same in omega (arith, b, k);
-      }, tt))
+      (subst (Own (after state (event.Log by sub ino (logged.Ticket number) datasync)) by) (sym is) (
+        record {
+          ticket = contains_head new (other_tickets state role next stands by others);
+          log = log_after state (event.Log by sub ino (logged.Ticket number) datasync) sub.0 may.log;
+          of_sub = log_afterwards state (event.Log by sub ino (logged.Ticket number) datasync) sub.0 may.log may.of_sub;
+          above = let a = own.0 in let k = kept.covered in omega (arith, a, k);
+          up_to_open = let b = own.1 in let k = kept.open_same in omega (arith, b, k);
+        },
+        tt,
+      ))
 
   -- the seal of a number
   pub seal_stands : (sub : SubId) (number : ℕ) → MaySealSub state by sub.0 number → role by ≡ Holds sub.0 number Unsealed → next by ≡ Holds sub.0 number Sealed → Stands (after state (event.SealSub by sub number)) next

@@ -1,9 +1,8 @@
 -- What a caller's call holds, and how events change it.
-use Rattle.std.proofs.Common.{◌≡◌, ◌≢◌, ℕ, ◌+◌, Bool, true, false, cond, ◌||◌, List, [], ◌∷◌, Option, Some, None, refl, sym, ap, subst, ◌∙◌, arith, inl, inr}
+use Rattle.std.proofs.Common.{◌≡◌, ℕ, Bool, true, false, cond, ◌||◌, refl, sym, ap, subst, ◌∙◌}
 use Rattle.std.specs.Bool.{nat_eq, ⊤}
 use Rattle.std.specs.List.{list_any}
 use Rattle.flat_model.specs.declared.op.Op.{Op}
-use Rattle.flat_model.specs.declared.answer.Answer.{Answer}
 use Rattle.commit_history.specs.declared.event.Event.{Event}
 use Rattle.commit_history.specs.declared.event.Event.TheVariants as event
 use Rattle.commit_history.specs.declared.event.Cover.{Cover}
@@ -14,7 +13,7 @@ use Rattle.commit_history.specs.declared.event.OpEnd.{OpEnd}
 use Rattle.commit_history.specs.declared.event.OpEnd.TheVariants as ends
 use Rattle.commit_history.specs.State.{State, is_taken}
 use Rattle.commit_history.specs.Effects.{has_ticket, wants_at_seal}
-use Rattle.commit_history.specs.Calls.{Part, Unsealed, Sealed, Written, InRoot, GaveUp, Stage, Ended, WasShort, HasTicket, Commits, Syncs, Call, asked, with_seal, log_stage, op_stage, covered_by, is_covered_by_root, is_covered_by_full, after_own, after_other, caller_of, call_after, Duty, Begins, TriesAgain, EndsPart, EndsRoot, EndsFull, SealsSub, SealsRoot, SealsFull, GivesUp, Asks, is_stopped, is_open_number, want_duty, duty, IsDone, Operates, Refuses, Logs, AsksFirst, OperatesAgain, PartWritten, PartGivenUp, PartFailed, RootWritten, RootFailed, FullWritten, FullFailed, SealsPart, SealsLogs, SealsVolume, GivesSlotUp, AsksForFull}
+use Rattle.commit_history.specs.Calls.{Part, Unsealed, Sealed, Written, InRoot, GaveUp, Stage, Ended, WasShort, HasTicket, Commits, Syncs, Call, asked, with_seal, covered_by, is_covered_by_root, is_covered_by_full, after_own, after_other, Begins, TriesAgain, EndsPart, EndsRoot, SealsSub, SealsRoot, GivesUp, Asks, is_stopped, is_open_number, want_duty, duty, IsDone, Operates, Refuses, Logs, AsksFirst, OperatesAgain, PartWritten, PartGivenUp, PartFailed, RootWritten, RootFailed, FullWritten, FullFailed, SealsPart, SealsLogs, SealsVolume, GivesSlotUp, AsksForFull}
 
 -- nothing, a ticket that isn't covered, or a want of a full commit, `sealed` where the call runs it
 pub data Role : Type 0 where

@@ -1,7 +1,6 @@
 -- What holds of a call by itself: when it has made no event, how it may be covered, and that a short operation is in its limits.
-use Rattle.std.proofs.Common.{◌≡◌, ◌≢◌, ℕ, ◌<◌, ◌≤◌, ◌+◌, Bool, true, false, cond, List, [], ◌∷◌, Option, Some, None, refl, sym, ap, subst, ◌∙◌, arith, inl, inr, ◌⊎◌}
-use Rattle.std.specs.Bool.{nat_eq, ⊤}
-use Rattle.std.specs.List.{list_any}
+use Rattle.std.proofs.Common.{◌≡◌, ℕ, ◌<◌, ◌+◌, Bool, true, false, cond, Some, None, refl, sym, ap, subst, ◌∙◌, arith}
+use Rattle.std.specs.Bool.{⊤}
 use Rattle.flat_model.specs.declared.op.Op.{Op}
 use Rattle.flat_model.specs.declared.answer.Answer.{Answer}
 use Rattle.flat_model.specs.Step.{IsSpelled, IsInLimits}
@@ -14,9 +13,9 @@ use Rattle.commit_history.specs.declared.event.Logged.TheVariants as logged
 use Rattle.commit_history.specs.declared.event.OpEnd.TheVariants as ends
 use Rattle.commit_history.specs.State.{State}
 use Rattle.commit_history.specs.Legal.{MayCome}
-use Rattle.commit_history.specs.Calls.{Part, Unsealed, Sealed, Written, InRoot, GaveUp, Stage, Ended, WasShort, HasTicket, Commits, Syncs, Call, no_call, answer_of, asked, with_seal, covered_by, is_covered_by_root, is_covered_by_full, after_own, after_other, Duty, Begins, TriesAgain, EndsPart, EndsRoot, SealsSub, SealsRoot, GivesUp, Asks, is_stopped, is_open_number, want_duty, ticket_duty, duty, IsDone, Operates, Refuses, Logs, AsksFirst, OperatesAgain, PartWritten, PartGivenUp, PartFailed, RootWritten, RootFailed, FullWritten, FullFailed, SealsPart, SealsLogs, SealsVolume, GivesSlotUp, AsksForFull}
+use Rattle.commit_history.specs.Calls.{Part, Unsealed, Sealed, Written, InRoot, GaveUp, Stage, Ended, WasShort, HasTicket, Commits, Syncs, Call, answer_of, asked, with_seal, covered_by, is_covered_by_root, is_covered_by_full, after_own, after_other, Duty, Begins, TriesAgain, EndsPart, EndsRoot, SealsSub, SealsRoot, GivesUp, Asks, is_stopped, is_open_number, want_duty, ticket_duty, duty, IsDone, Operates, Refuses, Logs, AsksFirst, OperatesAgain, PartWritten, PartGivenUp, PartFailed, RootWritten, RootFailed, FullWritten, FullFailed, SealsPart, SealsLogs, SealsVolume, GivesSlotUp, AsksForFull}
 use Rattle.commit_laws.specs.Waiting.{IsUnfinished}
-use Rattle.commit_laws.proofs.Roles.{Role, Idle, Holds, Wants, role_of}
+use Rattle.commit_laws.proofs.Roles.{Role, Holds, Wants, role_of}
 
 abbrev pub IsTried : Op → Type 0
 IsTried op = IsSpelled op × IsInLimits op
@@ -54,8 +53,8 @@ IsSane call = CoverSane call.cover call.stage call.events
 -- ---- the events of other callers
 
 cover_sane : (b : Bool) (by : Cover) (stage : Stage) (events : ℕ) → CoverSane by stage events → OpenSane stage events → CoverSane (cond b by covers.Open) stage events
-cover_sane true by stage events there open = there
-cover_sane false by stage events there open = open
+cover_sane true by stage events there before = there
+cover_sane false by stage events there before = before
 
 root_sane : (state : State) (cover : Cover) (stage : Stage) (events : ℕ) → CoverSane cover stage events → IsSane (covered_by (is_covered_by_root state stage) covers.Root (record { stage = stage; cover = cover; events = events }))
 root_sane state covers.Root stage events sane = sane

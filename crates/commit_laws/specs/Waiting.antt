@@ -1,5 +1,5 @@
 -- Which calls haven't finished, what they hold, and whether the next step of a call has to wait.
-use Rattle.std.specs.Prelude.{◌≡◌, ◌≢◌, ℕ, ◌<◌, true, List, [], Option, Some, None, Contains}
+use Rattle.std.specs.Prelude.{◌≡◌, ◌≢◌, ℕ, ◌<◌, true, List, [], None, Contains}
 use Rattle.flat_model.specs.Volume.{Volume}
 use Rattle.commit_history.specs.declared.event.Event.{Event}
 use Rattle.commit_history.specs.declared.event.Event.TheVariants as event
