@@ -6,3 +6,5 @@ pub mod Done
 pub mod Sane
 pub mod Reaching
 pub mod Going
+pub mod Covered
+pub mod Promises

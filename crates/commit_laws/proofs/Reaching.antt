@@ -187,12 +187,12 @@ module _ (state : State) (calls : ℕ → Call) (e : Event) where
   other_call : (caller : ℕ) → caller ≢ caller_of e → calls_after state calls e caller ≡ after_other state caller (calls caller) e
   other_call caller other = ap (λ b. cond b (after_own state caller (calls caller) e) (after_other state caller (calls caller) e)) (ne_eqb caller (caller_of e) other)
 
-  step_stands : Known state → Stands state (roles_of calls) → MayCome state e → IsDone state (caller_of e) (duty state (calls (caller_of e))) e → Stands (after state e) (roles_of (calls_after state calls e))
+  pub step_stands : Known state → Stands state (roles_of calls) → MayCome state e → IsDone state (caller_of e) (duty state (calls (caller_of e))) e → Stands (after state e) (roles_of (calls_after state calls e))
   step_stands known stands may does = event_stands state (roles_of calls) (roles_of (calls_after state calls e)) stands known e may
       (subst (λ c. Acts e (role_of (calls (caller_of e))) (role_of c)) (sym own_call) (role_acts state (caller_of e) (calls (caller_of e)) e does))
       (λ caller other. ap role_of (other_call caller other) ∙ role_other state caller (calls caller) e)
 
-  step_sane : ((caller : ℕ) → IsSane (calls caller)) → MayCome state e → IsDone state (caller_of e) (duty state (calls (caller_of e))) e → (caller : ℕ) → IsSane (calls_after state calls e caller)
+  pub step_sane : ((caller : ℕ) → IsSane (calls caller)) → MayCome state e → IsDone state (caller_of e) (duty state (calls (caller_of e))) e → (caller : ℕ) → IsSane (calls_after state calls e caller)
   step_sane sane may does caller = elim (cases_eq caller (caller_of e)) [
     | inl same ↦ subst (λ c. IsSane (calls_after state calls e c)) (sym same) (subst IsSane (sym own_call) (own_sane state (caller_of e) (calls (caller_of e)) e may (sane (caller_of e)) does))
     | inr other ↦ subst IsSane (sym (other_call caller other)) (other_sane state caller (calls caller) e (sane caller))
@@ -206,7 +206,7 @@ module _ (volume : Volume) (coherent : IsCoherentVolume volume) where
       all_stand events (after state e) (calls_after state calls e) (reached_more volume state e reached legal.0)
       (step_stands state calls e (known volume coherent state reached) stands legal.0 follows.0) (step_sane state calls e sane legal.0 follows.0) legal.1 follows.1
 
-  mounted_stands : Stands (mounted_state volume) (λ caller. Idle)
+  pub mounted_stands : Stands (mounted_state volume) (λ caller. Idle)
   unfolding mounted_state
   mounted_stands = record {
     root_held = λ commit runs. absurd (some_none commit (sym runs));
