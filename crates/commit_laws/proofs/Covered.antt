@@ -1,7 +1,6 @@
 -- What events of other callers leave of a call, and what a covered call does next.
-use Rattle.std.proofs.Common.{◌≡◌, ◌≢◌, ℕ, Bool, true, false, cond, Option, Some, None, refl, sym, ap, subst, ◌∙◌}
+use Rattle.std.proofs.Common.{◌≡◌, ◌≢◌, ℕ, Bool, false, cond, refl, ap, ◌∙◌}
 use Rattle.std.proofs.lemmas.Bool.{ne_eqb}
-use Rattle.flat_model.specs.declared.answer.Answer.{Answer}
 use Rattle.commit_history.specs.declared.event.Event.{Event}
 use Rattle.commit_history.specs.declared.event.Event.TheVariants as event
 use Rattle.commit_history.specs.declared.event.Cover.{Cover}

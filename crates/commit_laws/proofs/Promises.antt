@@ -1,7 +1,7 @@
 -- An fsync whose call has an answer by which it is durable is acknowledged.
-use Rattle.std.proofs.Common.{◌≡◌, ◌≢◌, ℕ, ◌<◌, ◌≤◌, ◌+◌, Bool, true, false, cond, not, List, [], ◌∷◌, ◌++◌, Option, Some, None, refl, sym, ap, subst, ◌∙◌, arith, inl, inr, ◌⊎◌}
+use Rattle.std.proofs.Common.{◌≡◌, ◌≢◌, ℕ, ◌+◌, Bool, true, false, cond, not, List, [], ◌∷◌, ◌++◌, Option, Some, None, refl, sym, ap, subst, ◌∙◌, arith, inl, inr, ◌⊎◌}
 use Rattle.std.specs.Bool.{nat_eq, nat_le, ⊤}
-use Rattle.std.specs.List.{Contains, filter, list_any}
+use Rattle.std.specs.List.{Contains, filter}
 use Rattle.std.specs.FinMap.{get}
 use Rattle.std.proofs.lemmas.Bool.{cases_eq, cases_Bool, ne_eqb, eq-eqb, true≢false}
 use Rattle.std.proofs.lemmas.List.Elements.{Contains-append_left, Contains-append_right}
@@ -19,14 +19,14 @@ use Rattle.commit_history.specs.declared.event.Cover.{Cover}
 use Rattle.commit_history.specs.declared.event.Cover.TheVariants as covers
 use Rattle.commit_history.specs.declared.event.Logged.{Logged}
 use Rattle.commit_history.specs.declared.event.Logged.TheVariants as logged
-use Rattle.commit_history.specs.State.{SubLog, Synced, RootCommit, State, HasLog, mounted_state, number_taken, is_taken}
+use Rattle.commit_history.specs.State.{SubLog, Synced, State, HasLog, mounted_state, number_taken, is_taken}
 use Rattle.commit_history.specs.Effects.{after, after_events, state_of, log_after, log_after_step, log_stepped, log_sealed, log_taken, log_with, sub_sealed, is_up_to, synced, slots_written, slots_without}
 use Rattle.commit_history.specs.Legal.{MayCome, MayLog, IsLegal, IsLegalFrom, HoldsFull}
-use Rattle.commit_history.specs.Calls.{Part, Unsealed, Sealed, Written, InRoot, GaveUp, Stage, Ended, WasShort, HasTicket, Commits, Syncs, Call, no_call, answer_of, asked, with_seal, covered_by, is_covered_by_root, is_covered_by_full, after_own, after_other, caller_of, call_after, call_after_all, call_of, Duty, Begins, EndsPart, EndsRoot, SealsSub, SealsRoot, GivesUp, Asks, is_stopped, is_open_number, want_duty, duty, IsDone, Operates, Refuses, Logs, AsksFirst, PartWritten, PartGivenUp, PartFailed, RootWritten, RootFailed, FullWritten, FullFailed, SealsPart, SealsLogs, SealsVolume, GivesSlotUp, AsksForFull, FollowsRules, IsRuled}
-use Rattle.commit_history.proofs.LogNumbers.{log_before, log_afterwards}
+use Rattle.commit_history.specs.Calls.{Part, Unsealed, Sealed, Written, InRoot, GaveUp, Stage, Ended, WasShort, HasTicket, Commits, Syncs, Call, no_call, answer_of, asked, covered_by, is_covered_by_root, is_covered_by_full, after_own, after_other, caller_of, call_after, call_after_all, call_of, Begins, EndsPart, EndsRoot, SealsSub, SealsRoot, GivesUp, Asks, is_stopped, is_open_number, want_duty, duty, IsDone, Operates, Refuses, Logs, AsksFirst, PartWritten, PartGivenUp, PartFailed, RootWritten, RootFailed, FullWritten, FullFailed, SealsPart, SealsLogs, SealsVolume, GivesSlotUp, AsksForFull, FollowsRules, IsRuled}
+use Rattle.commit_history.proofs.LogNumbers.{log_before}
 use Rattle.commit_history.proofs.StateHolding.{either}
 use Rattle.commit_laws.specs.Answers.{is_durable, number_given, events_by, with_step, IsStillCall}
-use Rattle.commit_laws.proofs.Roles.{Role, Holds, role_of}
+use Rattle.commit_laws.proofs.Roles.{Holds, role_of}
 use Rattle.commit_laws.proofs.Standing.{Stands}
 use Rattle.commit_laws.proofs.Sane.{IsSane}
 use Rattle.commit_laws.proofs.Reaching.{Known, IsReached, known, reached_more, roles_of, calls_after, step_stands, step_sane, mounted_stands}
@@ -436,9 +436,9 @@ module _ (volume : Volume) (coherent : IsCoherentVolume volume) where
         let was = log_before state (event.Log caller sub ino end datasync) sub.0 new there in
         let same : was.0 ≡ old = some_same was.0 old (sym was.1 ∙ has) in
         let is : new ≡ log_after_step old may.run.sub caller state.point ino.0 end datasync =
-            was.2 ∙ ap (log_after state (event.Log caller sub ino end datasync) sub.0) same
-            ∙ ap (λ b. cond b (log_stepped (get state.current sub.0) old caller state.point ino.0 end datasync) old) (eq-eqb sub.0 sub.0 refl)
-            ∙ ap (λ o. log_stepped o old caller state.point ino.0 end datasync) may.current in
+        was.2 ∙ ap (log_after state (event.Log caller sub ino end datasync) sub.0) same
+        ∙ ap (λ b. cond b (log_stepped (get state.current sub.0) old caller state.point ino.0 end datasync) old) (eq-eqb sub.0 sub.0 refl)
+        ∙ ap (λ o. log_stepped o old caller state.point ino.0 end datasync) may.current in
         subst (λ l. Promise sub.0 l (synced old caller state.point ino.0 datasync (number_given end)) (after_own state caller call (event.Log caller sub ino end datasync))) (sym is) (stepped end may.run)
       where
         stepped : (x : Logged) (run : RunSub) → Promise sub.0 (log_after_step old run.sub caller state.point ino.0 x datasync) (synced old caller state.point ino.0 datasync (number_given x)) (after_own state caller call (event.Log caller sub ino x datasync))
@@ -459,6 +459,6 @@ module _ (volume : Volume) (coherent : IsCoherentVolume volume) where
         let begun : calls_after state calls step caller ≡ after_own state caller (calls caller) step = ap (λ b. cond b (after_own state caller (calls caller) step) (after_other state caller (calls caller) step)) (eq-eqb caller caller refl) in
         let split : call_of volume (with_step front caller sub ino end datasync back) caller ≡ call_after_all (after state step) caller (calls_after state calls step caller) back = call_split front (step ∷ back) (mounted_state volume) caller no_call in
         let promise = all_kept sub.0 fsync back (after state step) (calls_after state calls step) 0 (one_further state calls step back on)
-            (λ log at one. subst (Promise sub.0 log fsync) (sym begun) (begun_promise state (calls caller) end old has on.legal.0 log at))
-            new (subst (λ s. HasLog s sub.0 new) (events_split front (step ∷ back) (mounted_state volume)) there) (let e = ap (λ (c : Call). c.events) split in omega (arith, e, still)) in
+        (λ log at one. subst (Promise sub.0 log fsync) (sym begun) (begun_promise state (calls caller) end old has on.legal.0 log at))
+        new (subst (λ s. HasLog s sub.0 new) (events_split front (step ∷ back) (mounted_state volume)) there) (let e = ap (λ (c : Call). c.events) split in omega (arith, e, still)) in
         promise_kept sub.0 new fsync (call_after_all (after state step) caller (calls_after state calls step caller) back) answer promise (ap answer_of (sym split) ∙ is) durable

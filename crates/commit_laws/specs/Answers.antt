@@ -9,7 +9,6 @@ use Rattle.commit_history.specs.declared.event.Event.{Event}
 use Rattle.commit_history.specs.declared.event.Event.TheVariants as event
 use Rattle.commit_history.specs.declared.event.Logged.{Logged}
 use Rattle.commit_history.specs.declared.event.Logged.TheVariants as logged
-use Rattle.commit_history.specs.State.{Synced}
 use Rattle.commit_history.specs.Calls.{call_of, caller_of, Duty, Begins, TriesAgain, EndsPart, EndsRoot, EndsFull, SealsSub, SealsRoot, SealsFull, GivesUp, Asks}
 
 -- a duty that is a step of a commit, or asks for one: all but the first event of a call and the second try of an operation

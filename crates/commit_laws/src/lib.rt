@@ -8,5 +8,7 @@
 mod answers;
 mod waiting;
 
-pub use answers::{answered_fsyncs_are_acknowledged, answers_come_from_own_events, covered_calls_need_no_commit};
+pub use answers::{
+    answered_fsyncs_are_acknowledged, answers_come_from_own_events, covered_calls_need_no_commit,
+};
 pub use waiting::{finished_calls_hold_nothing, no_state_is_stuck};
