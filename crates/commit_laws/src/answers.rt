@@ -24,19 +24,23 @@ pub fn covered_calls_need_no_commit()
 /// commit that covered it: the events of other callers change nothing of a call but its cover, and nothing once it is
 /// covered. A root commit covers the tickets whose numbers it takes, a full commit covers all (own).
 pub fn answers_come_from_own_events()
-    ensures own { (one two : State) (caller : ℕ) (call : Call) (event : Event) → one.failures ≡ two.failures → after_own one caller call event ≡ after_own two caller call event }
-    ensures other { (state : State) (caller : ℕ) (call : Call) (event : Event) → caller ≢ caller_of event → (call_after state caller call event).stage ≡ call.stage }
-    ensures once { (state : State) (caller : ℕ) (call : Call) (event : Event) → caller ≢ caller_of event → call.cover ≢ covers.Open → call_after state caller call event ≡ call }
-    ensures root { (state : State) (caller by sub number : ℕ) (part : Part) (call : Call) → caller ≢ by → call.stage ≡ HasTicket sub number part → call.cover ≡ covers.Open
-        → (call_after state caller call (event.RootDone by)).cover ≡ cond (is_taken state.root sub number) covers.Root covers.Open }
-    ensures full { (state : State) (caller by sub number : ℕ) (part : Part) (call : Call) → caller ≢ by → call.stage ≡ HasTicket sub number part → call.cover ≡ covers.Open
-        → (call_after state caller call (event.FullDone by)).cover ≡ covers.Full }
+    ensures own { (one two : State) (caller : ℕ) (call : Call) (event : Event) → one.failures ≡ two.failures
+        → after_own one caller call event ≡ after_own two caller call event }
+    ensures other { (state : State) (caller : ℕ) (call : Call) (event : Event) → caller ≢ caller_of event
+        → (call_after state caller call event).stage ≡ call.stage }
+    ensures once { (state : State) (caller : ℕ) (call : Call) (event : Event) → caller ≢ caller_of event → call.cover ≢ covers.Open
+        → call_after state caller call event ≡ call }
+    ensures root { (state : State) (caller by sub number : ℕ) (part : Part) (call : Call) → caller ≢ by → call.stage ≡ HasTicket sub number part
+        → call.cover ≡ covers.Open → (call_after state caller call (event.RootDone by)).cover ≡ cond (is_taken state.root sub number) covers.Root covers.Open }
+    ensures full { (state : State) (caller by sub number : ℕ) (part : Part) (call : Call) → caller ≢ by → call.stage ≡ HasTicket sub number part
+        → call.cover ≡ covers.Open → (call_after state caller call (event.FullDone by)).cover ≡ covers.Full }
 {}
 
 /// Law: an fsync or fdatasync is acknowledged from the moment on at which it has an answer by which it is durable: its
 /// subvolume's log has it among those that no crash may undo, with the point of its log step (own).
 pub fn answered_fsyncs_are_acknowledged()
-    ensures { (volume : Volume) (front back : List Event) (caller : ℕ) (sub : SubId) (ino : Ino) (end : Logged) (datasync : Bool) (old new : SubLog) (answer : Answer) → IsCoherentVolume volume
+    ensures { (volume : Volume) (front back : List Event) (caller : ℕ) (sub : SubId) (ino : Ino) (end : Logged) (datasync : Bool)
+        (old new : SubLog) (answer : Answer) → IsCoherentVolume volume
         → IsLegal volume (with_step front caller sub ino end datasync back) → IsRuled volume (with_step front caller sub ino end datasync back)
         → IsStillCall volume (with_step front caller sub ino end datasync back) caller back
         → answer_of (call_of volume (with_step front caller sub ino end datasync back) caller) ≡ Some answer → is_durable answer ≡ true

@@ -11,7 +11,8 @@ use Rattle.flat_model.specs.Needs.{blocks_and_items}
 -- how many different pairs a list has
 abbrev pub count_pairs : List (ℕ × ℕ) → ℕ
 count_pairs [] = 0
-count_pairs (pair ∷ pairs) = cond (list_any (λ (other : ℕ × ℕ). nat_eq pair.0 other.0 && nat_eq pair.1 other.1) pairs) (count_pairs pairs) (1 + count_pairs pairs)
+count_pairs (pair ∷ pairs) =
+    cond (list_any (λ (other : ℕ × ℕ). nat_eq pair.0 other.0 && nat_eq pair.1 other.1) pairs) (count_pairs pairs) (1 + count_pairs pairs)
 
 -- the INODE_REF items of names: one for each inode and directory of a near name ("INODE_REF")
 abbrev pub ref_items : List FlatName → ℕ
@@ -19,7 +20,8 @@ ref_items names = count_pairs (map (λ (name : FlatName). (name.ino, name.dir)) 
 
 -- the INODE_EXTREF items: one for each inode and hash of a far name ("INODE_EXTREF")
 abbrev pub extref_items : List FlatName → ℕ
-extref_items names = count_pairs (map (λ (name : FlatName). (name.ino, extref_hash_of name.dir name.bytes)) (filter (λ (name : FlatName). not name.near) names))
+extref_items names =
+    count_pairs (map (λ (name : FlatName). (name.ino, extref_hash_of name.dir name.bytes)) (filter (λ (name : FlatName). not name.near) names))
 
 -- the DIR_ITEM items: one for each directory and hash of its names ("DIR_ITEM")
 abbrev pub entry_items : List FlatName → ℕ
@@ -48,4 +50,5 @@ inode_blocks (LinkInode link) = 0
 
 -- the data blocks of a volume ("EXTENT_DATA")
 abbrev pub data_blocks : Volume → ℕ
-data_blocks volume = sum_by (λ (entry : ℕ × Subvolume). sum_by (λ (inner : ℕ × InodeRecord). inode_blocks inner.1) (entries entry.1.inodes)) (entries volume)
+data_blocks volume =
+    sum_by (λ (entry : ℕ × Subvolume). sum_by (λ (inner : ℕ × InodeRecord). inode_blocks inner.1) (entries entry.1.inodes)) (entries volume)

@@ -1,5 +1,5 @@
 -- What the bounds on room are counted from: the committed volume, the log steps since, and what each event may take.
-use Rattle.std.specs.Prelude.{ℕ, ◌+◌, ◌*◌, Bool, cond, List, [], ◌∷◌, fold, sum_by, Option, Some, None, nat_eq}
+use Rattle.std.specs.Prelude.{ℕ, ◌+◌, ◌*◌, Bool, cond, List, [], ◌∷◌, ◌++◌, fold, sum_by, Option, Some, None, nat_eq}
 use Rattle.std.specs.FinMap.{get, entries}
 use Rattle.flat_model.specs.Volume.{Subvolume, Volume}
 use Rattle.flat_model.specs.Needs.{charge}
@@ -43,12 +43,15 @@ mounted_ledger volume = record {
 abbrev pub step_now : State → ℕ → ℕ → Bool → List MadeStep
 step_now state id ino datasync = elim (get state.current id) [
   | None ↦ []
-  | Some run ↦ elim (get state.logs id) [ None ↦ [] | Some log ↦ record { current = run.sub; logged = log.logged; target = ino; datasync = datasync } ∷ [] ]
+  | Some run ↦ elim (get state.logs id) [
+    | None ↦ []
+    | Some log ↦ record { current = run.sub; logged = log.logged; target = ino; datasync = datasync } ∷ []
+  ]
 ]
 
 -- the steps of each subvolume with one made now
 abbrev pub steps_with : Ledger → ℕ → ℕ → Bool → ℕ → List MadeStep
-steps_with ledger sub ino datasync id = elim (step_now ledger.state sub ino datasync) [ [] ↦ ledger.steps id | step ∷ none ↦ cond (nat_eq id sub) (step ∷ ledger.steps id) (ledger.steps id) ]
+steps_with ledger sub ino datasync id = cond (nat_eq id sub) (step_now ledger.state sub ino datasync ++ ledger.steps id) (ledger.steps id)
 
 -- the weight of all inodes that these steps drew: that of each subvolume (own)
 abbrev pub weight_over : Volume → (ℕ → List MadeStep) → ℕ
@@ -99,8 +102,10 @@ counted ledger event = record ledger {
 
 -- what is counted after an event (own)
 abbrev pub ledger_after : Ledger → Event → Ledger
-ledger_after ledger (event.Log caller sub ino end datasync) = record (counted ledger (event.Log caller sub ino end datasync)) { steps = steps_ended ledger sub.0 ino.0 datasync end }
-ledger_after ledger (event.SealFull caller) = record (counted ledger (event.SealFull caller)) { sealing = ledger.count; sealing_charged = charge_of ledger (event.SealFull caller) }
+ledger_after ledger (event.Log caller sub ino end datasync) =
+    record (counted ledger (event.Log caller sub ino end datasync)) { steps = steps_ended ledger sub.0 ino.0 datasync end }
+ledger_after ledger (event.SealFull caller) =
+    record (counted ledger (event.SealFull caller)) { sealing = ledger.count; sealing_charged = charge_of ledger (event.SealFull caller) }
 ledger_after ledger (event.FullDone caller) = record (counted ledger (event.FullDone caller)) {
   committed = volume_sealed ledger.state.full ledger.committed;
   steps = λ id. [];

@@ -17,8 +17,8 @@ use Rattle.commit_room.specs.Ledger.{Ledger, mounted_ledger, ledger_after, charg
 
 -- ---- addresses in use
 
--- Of the addresses in use after so many events, `mounted` are those in use since the mount, and `taken` those that an event took, by its number; `trees` are the
--- tree blocks of the committed trees.
+-- Of the addresses in use after so many events, `mounted` are those in use since the mount, and `taken` those that an event took, by
+-- its number; `trees` are the tree blocks of the committed trees.
 pub record InUse : Type 0 where
   pub mounted : ℕ → ℕ
   pub taken : ℕ → ℕ → ℕ
@@ -80,7 +80,8 @@ pub record TakesRoom (blocks : ℕ) (use_ : InUse) (ledger : Ledger) (came : Eve
   pub mounted_falls : use_.mounted (ledger.count + 1) ≤ use_.mounted ledger.count
   pub taken_falls : (number : ℕ) → number < ledger.count → use_.taken (ledger.count + 1) number ≤ use_.taken ledger.count number
   pub behind_full : (caller : ℕ) → came ≡ event.FullDone caller
-      → used_before use_ (ledger.count + 1) ledger.sealing ≤ data_blocks (ledger_after ledger came).committed + trees_room (ledger_after ledger came).committed
+      → used_before use_ (ledger.count + 1) ledger.sealing
+      ≤ data_blocks (ledger_after ledger came).committed + trees_room (ledger_after ledger came).committed
   pub trees : use_.trees ledger.count ≤ trees_room ledger.committed
   pub shows : ShowsRoom blocks use_ ledger came
 

@@ -20,17 +20,18 @@ ghost use Rattle.commit_room.specs.Room.{InUse, IsInUse, ShortIsTrue, SpaceIsTru
 /// needed, its need is that of the operation or the step, and at least so many blocks were free as all but 82, the data
 /// blocks and trees of the last full commit, and the charges of all events since its seal (own).
 pub fn room_of_answers()
-    ensures short { (blocks : ℕ) (use_ : InUse) (volume : Volume) (front : List Event) (caller : ℕ) (op : Op) (again : Bool) (free need : ℕ) (indexes : List ℕ)
-        → IsLegal volume (front ++ event.Op caller op again (ends.Short free need) indexes ∷ []) → IsInUse blocks use_ volume (front ++ event.Op caller op again (ends.Short free need) indexes ∷ [])
+    ensures short { (blocks : ℕ) (use_ : InUse) (volume : Volume) (front : List Event) (caller : ℕ) (op : Op) (again : Bool)
+        (free need : ℕ) (indexes : List ℕ) → IsLegal volume (front ++ event.Op caller op again (ends.Short free need) indexes ∷ [])
+        → IsInUse blocks use_ volume (front ++ event.Op caller op again (ends.Short free need) indexes ∷ [])
         → ShortIsTrue blocks (ledger_of volume front) op free need }
-    ensures space { (blocks : ℕ) (use_ : InUse) (volume : Volume) (front : List Event) (caller : ℕ) (sub : SubId) (ino : Ino) (datasync : Bool) (free need : ℕ)
-        → IsInUse blocks use_ volume (front ++ event.Log caller sub ino (logged.Full (reasons.Space free need)) datasync ∷ [])
+    ensures space { (blocks : ℕ) (use_ : InUse) (volume : Volume) (front : List Event) (caller : ℕ) (sub : SubId) (ino : Ino) (datasync : Bool)
+        (free need : ℕ) → IsInUse blocks use_ volume (front ++ event.Log caller sub ino (logged.Full (reasons.Space free need)) datasync ∷ [])
         → SpaceIsTrue blocks (ledger_of volume front) sub.0 ino.0 datasync free need }
 {}
 
 /// Law: the committed volume from which room is counted is that of the logs, and the state is that of the events (own).
 pub fn committed_is_of_logs()
     ensures state { (volume : Volume) (events : List Event) → (ledger_of volume events).state ≡ state_of volume events }
-    ensures committed { (volume : Volume) (events : List Event) (id : ℕ) (log : SubLog) → IsCoherentVolume volume → IsLegal volume events → HasLog (state_of volume events) id log
-        → get (ledger_of volume events).committed id ≡ Some log.committed }
+    ensures committed { (volume : Volume) (events : List Event) (id : ℕ) (log : SubLog) → IsCoherentVolume volume → IsLegal volume events
+        → HasLog (state_of volume events) id log → get (ledger_of volume events).committed id ≡ Some log.committed }
 {}

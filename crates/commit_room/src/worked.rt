@@ -19,5 +19,6 @@ pub fn worked_counts()
 pub fn worked_charges()
     ensures root { (ledger : Ledger) (caller : ℕ) → charge_of ledger (event.SealRoot caller) ≡ 33 }
     ensures full { (ledger : Ledger) (caller : ℕ) → charge_of ledger (event.SealFull caller) ≡ 33 }
-    ensures sealed { (ledger : Ledger) (caller : ℕ) → (ledger_after (ledger_after (ledger_after ledger (event.SealFull caller)) (event.Ask caller)) (event.FullDone caller)).charged ≡ 33 }
+    ensures sealed { (ledger : Ledger) (caller : ℕ)
+        → (ledger_after (ledger_after (ledger_after ledger (event.SealFull caller)) (event.Ask caller)) (event.FullDone caller)).charged ≡ 33 }
 {}
