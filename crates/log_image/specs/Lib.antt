@@ -1,0 +1,3 @@
+pub mod LogItems
+pub mod LogRules
+pub mod Laws
