@@ -1,1 +1,3 @@
 pub mod OneLog
+pub mod Limits
+pub mod Keys

@@ -1,0 +1,6 @@
+use Rattle.log_image.proofs.Limits.{limits_give, limits_from}
+use Rattle.log_image.proofs.Keys.{key_gives, key_from}
+use Rattle.log_image.proofs.faults.logs_are_accepted.Goals as goal
+
+pub returns : goal.returns
+returns c = ?
