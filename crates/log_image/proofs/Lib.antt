@@ -1,3 +1,4 @@
 pub mod OneLog
 pub mod Limits
 pub mod Keys
+pub mod Clashes
