@@ -2,3 +2,4 @@ pub mod OneLog
 pub mod Limits
 pub mod Keys
 pub mod Clashes
+pub mod Sayings

@@ -1,5 +1,6 @@
 use Rattle.log_image.proofs.Limits.{limits_give, limits_from}
 use Rattle.log_image.proofs.Clashes.{names_apart, clash_from}
+use Rattle.log_image.proofs.Sayings.{said_by, named_by}
 use Rattle.log_image.proofs.Keys.{key_gives, key_from}
 use Rattle.log_image.proofs.faults.logs_are_accepted.Goals as goal
 
