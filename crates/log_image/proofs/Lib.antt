@@ -3,3 +3,4 @@ pub mod Limits
 pub mod Keys
 pub mod Clashes
 pub mod Sayings
+pub mod Broken

@@ -34,12 +34,20 @@ begins_inside items item =
     && (nat_lt other.0.offset item.0.offset && nat_lt item.0.offset (other.0.offset + covered_bytes (extent_in_item other)))) items
 
 -- an item's first fault among these: that of its grammar, then Overlap
+abbrev pub fault_then : Option ItemFault → Bool → Option ItemFault
+fault_then None inside = cond inside (Some Overlap) None
+fault_then (Some fault) inside = Some fault
+
 abbrev pub fault_among : List Item → Item → Option ItemFault
-fault_among items item = elim (log_item_fault item.0 item.1) [ None ↦ cond (begins_inside items item) (Some Overlap) None | Some fault ↦ Some fault ]
+fault_among items item = fault_then (log_item_fault item.0 item.1) (begins_inside items item)
+
+abbrev pub fault_or : Key → Option ItemFault → Option (Key × ItemFault) → Option (Key × ItemFault)
+fault_or key None later = later
+fault_or key (Some fault) later = Some (key, fault)
 
 abbrev pub first_fault : List Item → List Item → Option (Key × ItemFault)
 first_fault all [] = None
-first_fault all (item ∷ items) = elim (fault_among all item) [ None ↦ first_fault all items | Some fault ↦ Some (item.0, fault) ]
+first_fault all (item ∷ items) = fault_or item.0 (fault_among all item) (first_fault all items)
 
 -- ---- the log of items that have no fault
 
