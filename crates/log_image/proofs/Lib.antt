@@ -4,3 +4,4 @@ pub mod Keys
 pub mod Clashes
 pub mod Sayings
 pub mod Broken
+pub mod Accepted
