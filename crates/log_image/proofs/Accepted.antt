@@ -40,34 +40,34 @@ existing_objectid items ino inode h = go (inode_in items ino) refl h
     go None e h = absurd cc
     go (Some value) e h = said_objectid items ino value e
 
-whole_of_log : (items : List Item) (blocks : Data) (ino : ℕ) → get (log_of items blocks).whole ino ≡ whole_in items blocks ino
+pub whole_of_log : (items : List Item) (blocks : Data) (ino : ℕ) → get (log_of items blocks).whole ino ≡ whole_in items blocks ino
 unfolding log_of
 whole_of_log items blocks ino = get_map_of_all (objectids_in items) (whole_in items blocks) (whole_objectid items blocks) ino
 
-existing_of_log : (items : List Item) (blocks : Data) (ino : ℕ) → get (log_of items blocks).existing ino ≡ existing_in items ino
+pub existing_of_log : (items : List Item) (blocks : Data) (ino : ℕ) → get (log_of items blocks).existing ino ≡ existing_in items ino
 unfolding log_of
 existing_of_log items blocks ino = get_map_of_all (objectids_in items) (existing_in items) (existing_objectid items) ino
 
-names_of_log : (items : List Item) (blocks : Data) → (log_of items blocks).names ≡ name_set (names_in items)
+pub names_of_log : (items : List Item) (blocks : Data) → (log_of items blocks).names ≡ name_set (names_in items)
 unfolding log_of
 names_of_log items blocks = refl
 
-ranges_of_log : (items : List Item) (blocks : Data) → (log_of items blocks).ranges ≡ ranges_in items
+pub ranges_of_log : (items : List Item) (blocks : Data) → (log_of items blocks).ranges ≡ ranges_in items
 unfolding log_of
 ranges_of_log items blocks = refl
 
-entries_of_log : (items : List Item) (blocks : Data) → (log_of items blocks).entries ≡ entries_in items
+pub entries_of_log : (items : List Item) (blocks : Data) → (log_of items blocks).entries ≡ entries_in items
 unfolding log_of
 entries_of_log items blocks = refl
 
 -- ---- what is said of an inode
 
 -- of an inode with an item the log has one or the other
-record SaidOnce (items : List Item) (blocks : Data) (ino : ℕ) (value : InodeValue) : Type 0 where
+pub record SaidOnce (items : List Item) (blocks : Data) (ino : ℕ) (value : InodeValue) : Type 0 where
   pub bare : value.generation ≡ 0 → (whole_in items blocks ino ≡ None) × (existing_in items ino ≡ Some (made_by_mode items ino value))
   pub full : nat_eq value.generation 0 ≡ false → (whole_in items blocks ino ≡ Some (whole_by_mode items blocks ino value)) × (existing_in items ino ≡ None)
 
-said_once_of : (items : List Item) (blocks : Data) (ino : ℕ) (value : InodeValue) → inode_in items ino ≡ Some value → SaidOnce items blocks ino value
+pub said_once_of : (items : List Item) (blocks : Data) (ino : ℕ) (value : InodeValue) → inode_in items ino ≡ Some value → SaidOnce items blocks ino value
 said_once_of items blocks ino value h = record {
   bare = λ g. (
     ap (whole_said items blocks ino) h ∙ ap (λ (b : Bool). cond b None (Some (whole_by_mode items blocks ino value))) (eq-eqb value.generation 0 g),
@@ -86,7 +86,7 @@ pub record SaidWhole (items : List Item) (blocks : Data) (ino : ℕ) (whole : Wh
   pub full : nat_eq value.generation 0 ≡ false
   pub is : whole ≡ whole_by_mode items blocks ino value
 
-whole_by : (items : List Item) (blocks : Data) (ino : ℕ) (whole : WholeInode) → whole_in items blocks ino ≡ Some whole → SaidWhole items blocks ino whole
+pub whole_by : (items : List Item) (blocks : Data) (ino : ℕ) (whole : WholeInode) → whole_in items blocks ino ≡ Some whole → SaidWhole items blocks ino whole
 whole_by items blocks ino whole h = go (inode_in items ino) refl h
   where
     of_value_here : (value : InodeValue) → inode_in items ino ≡ Some value → (g : Bool) → nat_eq value.generation 0 ≡ g → cond g None (Some (whole_by_mode items blocks ino value)) ≡ Some whole → SaidWhole items blocks ino whole
@@ -103,7 +103,7 @@ pub record SaidExisting (items : List Item) (ino : ℕ) (inode : InodeRecord) : 
   pub bare : nat_eq value.generation 0 ≡ true
   pub is : inode ≡ made_by_mode items ino value
 
-existing_by : (items : List Item) (ino : ℕ) (inode : InodeRecord) → existing_in items ino ≡ Some inode → SaidExisting items ino inode
+pub existing_by : (items : List Item) (ino : ℕ) (inode : InodeRecord) → existing_in items ino ≡ Some inode → SaidExisting items ino inode
 existing_by items ino inode h = go (inode_in items ino) refl h
   where
     of_value_here : (value : InodeValue) → inode_in items ino ≡ Some value → (g : Bool) → nat_eq value.generation 0 ≡ g → cond g (Some (made_by_mode items ino value)) None ≡ Some inode → SaidExisting items ino inode
@@ -129,7 +129,7 @@ any_none : {X : Type 0} (xs : List X) (p : X → Bool) → list_any p xs ≡ fal
 any_none [] p h all = refl
 any_none (x ∷ xs) p h all = let parts = or_parts (p x) (list_any p xs) h in let here = all x in absurd cc
 
-extents_give : (attributes : List (List ℕ × List ℕ)) (extents : List (ℕ × ExtentValue)) (value : InodeValue) → has_more attributes extents value ≡ false → has_wrong_extents extents value ≡ false → HasItsExtents value extents
+pub extents_give : (attributes : List (List ℕ × List ℕ)) (extents : List (ℕ × ExtentValue)) (value : InodeValue) → has_more attributes extents value ≡ false → has_wrong_extents extents value ≡ false → HasItsExtents value extents
 extents_give attributes extents value more wrong = record {
   link = λ m. one_gives is_inline_extent extents (not-false (is_one is_inline_extent extents) (sym (link_case m) ∙ wrong));
   file = λ m extent c. none_gives is_inline_extent extents (sym (file_case m) ∙ wrong) extent c;
@@ -157,7 +157,7 @@ extents_give attributes extents value more wrong = record {
     dir_case : value.mode ≡ dir_mode → has_wrong_extents extents value ≡ not (is_empty extents)
     dir_case m = rw m refl
 
-bare_gives : (attributes : List (List ℕ × List ℕ)) (extents : List (ℕ × ExtentValue)) (value : InodeValue) → has_more attributes extents value ≡ false → value.generation ≡ 0 → attributes ≡ []
+pub bare_gives : (attributes : List (List ℕ × List ℕ)) (extents : List (ℕ × ExtentValue)) (value : InodeValue) → has_more attributes extents value ≡ false → value.generation ≡ 0 → attributes ≡ []
 bare_gives attributes extents value more g = empty_gives attributes (not-false (is_empty attributes) (or_parts (not (is_empty attributes)) (tests extents) (sym (bare_case g) ∙ more)).0)
   where
     tests : List (ℕ × ExtentValue) → Bool
@@ -166,7 +166,7 @@ bare_gives attributes extents value more g = empty_gives attributes (not-false (
     bare_case : value.generation ≡ 0 → has_more attributes extents value ≡ (not (is_empty attributes) || tests extents)
     bare_case g = rw g refl
 
-wrong_from : (extents : List (ℕ × ExtentValue)) (value : InodeValue) → HasItsExtents value extents → (value.mode ≡ file_mode) ⊎ (value.mode ≡ dir_mode) ⊎ (value.mode ≡ link_mode) → has_wrong_extents extents value ≡ false
+pub wrong_from : (extents : List (ℕ × ExtentValue)) (value : InodeValue) → HasItsExtents value extents → (value.mode ≡ file_mode) ⊎ (value.mode ≡ dir_mode) ⊎ (value.mode ≡ link_mode) → has_wrong_extents extents value ≡ false
 wrong_from extents value has (inl m) = file_case m ∙ none_from is_inline_extent extents (has.file m)
   where
     file_case : value.mode ≡ file_mode → has_wrong_extents extents value ≡ list_any is_inline_extent extents
@@ -182,7 +182,7 @@ wrong_from extents value has (inr (inr m)) =
     link_case : value.mode ≡ link_mode → has_wrong_extents extents value ≡ not (is_one is_inline_extent extents)
     link_case m = rw m refl
 
-more_from : (attributes : List (List ℕ × List ℕ)) (extents : List (ℕ × ExtentValue)) (value : InodeValue) → HasItsExtents value extents → (value.generation ≡ 0 → attributes ≡ []) → has_more attributes extents value ≡ false
+pub more_from : (attributes : List (List ℕ × List ℕ)) (extents : List (ℕ × ExtentValue)) (value : InodeValue) → HasItsExtents value extents → (value.generation ≡ 0 → attributes ≡ []) → has_more attributes extents value ≡ false
 more_from attributes extents value has bare = go (nat_eq value.generation 0) refl (nat_eq value.mode link_mode) refl
   where
     full_case : nat_eq value.generation 0 ≡ false → has_more attributes extents value ≡ false

@@ -5,3 +5,5 @@ pub mod Clashes
 pub mod Sayings
 pub mod Broken
 pub mod Accepted
+pub mod Exact
+pub mod Refused

@@ -43,7 +43,7 @@ run_local one two number at zero same = refl
 run_local one two number at (suc count) same =
     let here : one at ≡ two at = subst (λ (x : ℕ). one x ≡ two x) (omega arith) (same 0 (omega arith)) in
     let later = run_local one two (number + 1) (at + 4096) count
-        (λ i below. subst (λ (x : ℕ). one x ≡ two x) (omega arith) (same (suc i) (omega arith))) in
+    (λ i below. subst (λ (x : ℕ). one x ≡ two x) (omega arith) (same (suc i) (omega arith))) in
     ap₂ (λ xs ys. xs ++ ys) (ap (block_there number) here) later
 
 pub flat_map_same : {X Y : Type 0} (f g : X → List Y) (xs : List X) → ((x : X) → Contains xs x → f x ≡ g x) → flat_map f xs ≡ flat_map g xs
