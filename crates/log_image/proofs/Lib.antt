@@ -7,3 +7,5 @@ pub mod Broken
 pub mod Accepted
 pub mod Exact
 pub mod Refused
+pub mod Computing
+pub mod Plants

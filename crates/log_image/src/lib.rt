@@ -5,6 +5,8 @@
 
 mod faults;
 mod items;
+mod planted;
 
 pub use faults::{logs_are_accepted, logs_are_refused};
+pub use planted::planted_logs;
 pub use items::{log_items_are_local, log_items_have_one_log};
