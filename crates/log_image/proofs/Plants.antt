@@ -18,7 +18,7 @@ use Rattle.logged_volume.specs.Replay.{replay, replayed_inode}
 use Rattle.logged_volume.proofs.Replays.{replay_names, replay_record}
 use Rattle.volume_image.specs.Subvolume.{Data}
 use Rattle.log_image.specs.LogRules.{LogRule, StrayItem, LacksInode, OtherKind, PastLimits, MoreThanExists, WrongExtents, RootNamed, NamesClash, first_fault, first_broken, after_items, broken_rules, accepted_log, log_of, has_its_key}
-use Rattle.log_image.specs.Planted.{IsRefusedFor, near_in, had, had_inodes, had_names, sound_log, stray_log, misplaced_log, orphan_log, turned_log, large_log, endowed_log, hollow_log, looped_log, crossed_log, doubled_log, repeated_log}
+use Rattle.log_image.specs.Planted.{IsRefusedFor, near_in, had, had_inodes, had_names, sound_log, stray_log, misplaced_log, orphan_log, turned_log, large_log, endowed_log, hollow_log, looped_log, crossed_log, doubled_log, repeated_log, crowded_log}
 use Rattle.log_image.specs.LogItems.{whole_in, existing_in}
 use Rattle.log_image.proofs.Accepted.{whole_of_log, existing_of_log}
 use Rattle.log_image.proofs.Computing.{broken_is, left_is, left_by}
@@ -167,6 +167,17 @@ repeated_broken blocks = broken_is had_inodes had_names repeated_log blocks
 
 pub repeated_is_refused : IsRefusedFor repeated_log 256 NamesClash
 repeated_is_refused = refused_by repeated_log 256 NamesClash repeated_faultless repeated_broken
+
+crowded_faultless : first_fault crowded_log crowded_log ≡ None
+unfolding log_item_fault inode_of inode_bytes range_of refs_of extrefs_of entries_of all_entries ref_from extref_from entry_from field is_name log_extent_of
+crowded_faultless = refl
+
+crowded_broken : (blocks : Data) → broken_rules had crowded_log blocks ≡ (256, NamesClash) ∷ []
+unfolding log_item_fault inode_of inode_bytes range_of refs_of extrefs_of entries_of all_entries ref_from extref_from entry_from field is_name log_extent_of has_its_key name_cmp name_hash_of register_after crc_byte crc_bits crc_bit dir_item_length
+crowded_broken blocks = broken_is had_inodes had_names crowded_log blocks
+
+pub crowded_is_refused : IsRefusedFor crowded_log 256 NamesClash
+crowded_is_refused = refused_by crowded_log 256 NamesClash crowded_faultless crowded_broken
 
 -- ---- what replay would leave
 

@@ -1,5 +1,5 @@
 -- A small committed subvolume, a log that is accepted over it, and for each rule of accepted logs a log that breaks it alone.
-use Rattle.std.specs.Prelude.{◌≡◌, ℕ, true, List, [], ◌∷◌, ◌++◌, None, Err}
+use Rattle.std.specs.Prelude.{◌≡◌, ◌+◌, ℕ, true, List, [], ◌∷◌, ◌++◌, None, Err, replicate}
 use Rattle.std.specs.FinMap.{from_entries}
 use Rattle.blk_base.specs.Leaf.{Item}
 use Rattle.blk_base.specs.Items.{InodeValue, inode_bytes, file_mode, dir_mode, link_mode}
@@ -83,6 +83,33 @@ doubled_log = inode_at 259 7 file_mode 0 ∷ ref_at 259 256 4 97 ∷ []
 abbrev pub repeated_log : List Item
 repeated_log = inode_at 259 7 file_mode 0
     ∷ (make_key 259 12 256, ref_bytes (record { index = 4; name = 98 ∷ [] }) ++ ref_bytes (record { index = 4; name = 98 ∷ [] })) ∷ []
+
+-- fourteen names of 255 bytes of one hash: 247 times `a`, and then these
+abbrev pub same_hash_ends : List (List ℕ)
+same_hash_ends =
+    (97 ∷ 97 ∷ 97 ∷ 97 ∷ 97 ∷ 97 ∷ 97 ∷ 97 ∷ [])
+    ∷ (97 ∷ 103 ∷ 103 ∷ 111 ∷ 99 ∷ 121 ∷ 103 ∷ 117 ∷ [])
+    ∷ (98 ∷ 97 ∷ 101 ∷ 103 ∷ 108 ∷ 110 ∷ 104 ∷ 107 ∷ [])
+    ∷ (99 ∷ 106 ∷ 118 ∷ 103 ∷ 122 ∷ 99 ∷ 112 ∷ 111 ∷ [])
+    ∷ (99 ∷ 111 ∷ 115 ∷ 110 ∷ 121 ∷ 119 ∷ 117 ∷ 113 ∷ [])
+    ∷ (101 ∷ 108 ∷ 120 ∷ 101 ∷ 98 ∷ 101 ∷ 100 ∷ 111 ∷ [])
+    ∷ (101 ∷ 113 ∷ 112 ∷ 119 ∷ 105 ∷ 100 ∷ 121 ∷ 112 ∷ [])
+    ∷ (101 ∷ 114 ∷ 115 ∷ 112 ∷ 104 ∷ 104 ∷ 122 ∷ 122 ∷ [])
+    ∷ (102 ∷ 106 ∷ 122 ∷ 109 ∷ 109 ∷ 114 ∷ 107 ∷ 113 ∷ [])
+    ∷ (102 ∷ 113 ∷ 116 ∷ 113 ∷ 100 ∷ 107 ∷ 112 ∷ 122 ∷ [])
+    ∷ (102 ∷ 114 ∷ 119 ∷ 118 ∷ 101 ∷ 103 ∷ 115 ∷ 112 ∷ [])
+    ∷ (103 ∷ 100 ∷ 108 ∷ 100 ∷ 120 ∷ 107 ∷ 118 ∷ 107 ∷ [])
+    ∷ (103 ∷ 103 ∷ 111 ∷ 99 ∷ 121 ∷ 103 ∷ 117 ∷ 97 ∷ [])
+    ∷ (103 ∷ 121 ∷ 100 ∷ 118 ∷ 115 ∷ 106 ∷ 107 ∷ 116 ∷ [])
+    ∷ []
+
+abbrev pub long_refs : ℕ → List (List ℕ) → List ℕ
+long_refs index [] = []
+long_refs index (end ∷ ends) = ref_bytes (record { index = index; name = replicate 247 97 ++ end }) ++ long_refs (index + 1) ends
+
+-- a file with these names, whose entries of one hash are more than a leaf holds
+abbrev pub crowded_log : List Item
+crowded_log = inode_at 259 7 file_mode 0 ∷ (make_key 259 12 256, long_refs 4 same_hash_ends) ∷ []
 
 -- the items have no fault, but the objectid breaks this rule and nothing else is broken: the log is refused
 pub record IsRefusedFor (items : List Item) (ino : ℕ) (rule : LogRule) : Type 0 where

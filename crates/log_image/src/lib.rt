@@ -8,5 +8,5 @@ mod items;
 mod planted;
 
 pub use faults::{logs_are_accepted, logs_are_refused};
-pub use planted::planted_logs;
 pub use items::{log_items_are_local, log_items_have_one_log};
+pub use planted::{planted_logs_are_refused, refused_logs_would_leave};

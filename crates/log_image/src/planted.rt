@@ -1,17 +1,46 @@
-ghost use Rattle.log_image.specs.LogRules.{LacksInode, MoreThanExists, NamesClash, OtherKind, PastLimits, RootNamed, StrayItem, WrongExtents};
-ghost use Rattle.log_image.specs.Planted.{IsRefusedFor, stray_log, misplaced_log, orphan_log, turned_log, large_log, endowed_log, hollow_log, looped_log, crossed_log, doubled_log, repeated_log};
+ghost use Rattle.std.specs.Prelude.{Ok, None, Some, [], ◌∷◌, ◌≡◌};
+ghost use Rattle.std.specs.FinMap.{get};
+ghost use Rattle.flat_model.specs.Records.{new_dir, new_link};
+ghost use Rattle.logged_volume.specs.Replay.{replay};
+ghost use Rattle.volume_image.specs.Subvolume.{Data};
+ghost use Rattle.log_image.specs.LogRules.{LacksInode, MoreThanExists, NamesClash, OtherKind, PastLimits, RootNamed, StrayItem, WrongExtents, accepted_log, log_of};
+ghost use Rattle.log_image.specs.Planted.{IsRefusedFor, crossed_log, crowded_log, doubled_log, endowed_log, had, hollow_log, large_log, looped_log, misplaced_log, near_in, orphan_log, repeated_log, sound_log, stray_log, turned_log};
 
-/// Worked values: a log with an item of a type that no log has.
-pub fn planted_logs()
+/// Worked values, over a committed subvolume with the file `/a` and the directory `/d`: a log that is accepted, and for
+/// each rule of accepted logs one or more that break it alone and are refused for it.
+pub fn planted_logs_are_refused()
+    // `/a` whole, as it was
+    ensures sound { (blocks : Data) → accepted_log had sound_log blocks ≡ Ok (log_of sound_log blocks) }
+    // an item of a type that no log has; an attribute under a hash that isn't its own
     ensures stray { IsRefusedFor stray_log 258 StrayItem }
     ensures misplaced { IsRefusedFor misplaced_log 257 StrayItem }
+    // a name of an inode without an item
     ensures orphan { IsRefusedFor orphan_log 259 LacksInode }
+    // `/a` as a directory
     ensures turned { IsRefusedFor turned_log 257 OtherKind }
+    // a file of more than 16,777,216 bytes
     ensures large { IsRefusedFor large_log 257 PastLimits }
+    // an inode that only exists, with an attribute
     ensures endowed { IsRefusedFor endowed_log 257 MoreThanExists }
+    // a symlink without an extent
     ensures hollow { IsRefusedFor hollow_log 259 WrongExtents }
+    // the root directory with a name
     ensures looped { IsRefusedFor looped_log 256 RootNamed }
+    // two names at one index, a name twice, a name twice in one item, and 3990 bytes of entries of one hash
     ensures crossed { IsRefusedFor crossed_log 256 NamesClash }
     ensures doubled { IsRefusedFor doubled_log 256 NamesClash }
     ensures repeated { IsRefusedFor repeated_log 256 NamesClash }
+    ensures crowded { IsRefusedFor crowded_log 256 NamesClash }
+{}
+
+/// Worked values: what replay of a log that is refused would leave: a name whose inode isn't there, a directory where
+/// a file was, a symlink to nothing, the root directory below another one, two names at one index, and a name twice.
+pub fn refused_logs_would_leave()
+    ensures orphan { (blocks : Data) → (replay had (log_of orphan_log blocks)).names ≡ near_in 256 2 97 257 ∷ near_in 256 3 100 258 ∷ near_in 256 4 98 259 ∷ [] }
+    ensures no_inode { (blocks : Data) → get (replay had (log_of orphan_log blocks)).inodes 259 ≡ None }
+    ensures turned { (blocks : Data) → get (replay had (log_of turned_log blocks)).inodes 257 ≡ Some new_dir }
+    ensures hollow { (blocks : Data) → get (replay had (log_of hollow_log blocks)).inodes 259 ≡ Some (new_link []) }
+    ensures looped { (blocks : Data) → (replay had (log_of looped_log blocks)).names ≡ near_in 256 2 97 257 ∷ near_in 256 3 100 258 ∷ near_in 258 4 114 256 ∷ [] }
+    ensures crossed { (blocks : Data) → (replay had (log_of crossed_log blocks)).names ≡ near_in 256 2 97 257 ∷ near_in 256 2 98 259 ∷ near_in 256 3 100 258 ∷ [] }
+    ensures doubled { (blocks : Data) → (replay had (log_of doubled_log blocks)).names ≡ near_in 256 2 97 257 ∷ near_in 256 3 100 258 ∷ near_in 256 4 97 259 ∷ [] }
 {}
