@@ -1,35 +1,19 @@
 -- A log without a fault is that of its items and accepted, and the other way round.
-use Rattle.std.proofs.Common.{◌≡◌, ◌≢◌, ◌<◌, ◌≤◌, ◌+◌, ◌⊎◌, ◌&&◌, ◌||◌, ℕ, Bool, true, false, not, cond, is_some, List, [], ◌∷◌, Contains, Option, Some, None, Result, Ok, Err, IsTrue, IsFalse, nat_eq, nat_lt, filter, map, refl, sym, ap, ap₂, subst, ◌∙◌, inl, inr, arith}
+use Rattle.std.proofs.Common.{◌≡◌, ◌≢◌, ◌⊎◌, ◌&&◌, ◌||◌, ℕ, Bool, true, false, not, cond, List, [], ◌∷◌, Contains, Option, Some, None, nat_eq, refl, sym, ap, ap₂, ◌∙◌, inl, inr}
 use Rattle.std.specs.List.{list_any}
-use Rattle.std.proofs.lemmas.Bool.{and_parts, and_from, or_cases, or_left, or_right, or_parts, eqb-true, eq-eqb, eqb-false, lt-ltb, ltb-true, not-true, not-false, not_from_true, false_from_ne_true, cases_Bool}
+use Rattle.std.proofs.lemmas.Bool.{or_parts, eqb-true, eq-eqb, eqb-false, not-false, false_from_ne_true}
 use Rattle.std.specs.FinMap.{get}
-use Rattle.blk_base.specs.declared.key.Key.{Key}
-use Rattle.blk_base.specs.declared.fault.ItemFault.{ItemFault}
-use Rattle.blk_base.specs.Keys.{inode_item, inode_ref, inode_extref, extent_data}
 use Rattle.blk_base.specs.Leaf.{Item}
-use Rattle.blk_base.specs.Items.{InodeValue, inode_value, file_mode, dir_mode, link_mode}
+use Rattle.blk_base.specs.Items.{InodeValue, file_mode, dir_mode, link_mode}
 use Rattle.blk_base.specs.Extents.{ExtentValue}
-use Rattle.blk_base.specs.ItemFaults.{log_item_fault, is_log_kind}
-use Rattle.item_laws.proofs.FaultLaws.{log_item_spelled, log_item_faultless}
-use Rattle.flat_model.specs.Records.{InodeRecord, kind_of, at_creation}
-use Rattle.flat_model.specs.Names.{FlatName, name_set, stands_in}
-use Rattle.flat_model.specs.Volume.{Subvolume}
-use Rattle.flat_model.proofs.Maps.{some_same, some_none}
-use Rattle.logged_volume.specs.FlatLog.{FlatLog, WholeInode, is_logged}
-use Rattle.logged_volume.specs.Replay.{names_left}
-use Rattle.logged_volume.specs.Accepted.{IsAccepted, KeepsWholeLimits, kind_of_whole}
-use Rattle.logged_volume.proofs.Members.{any_gives, any_from, none_from, none_gives, name_set_gives, name_set_has, is_set_name_set, get_map_of_all}
-use Rattle.volume_image.specs.Subvolume.{Data, mode_of}
-use Rattle.volume_image.proofs.Reaches.{head_in}
-use Rattle.log_image.specs.LogItems.{AreItemsOfLog, IsLogItem, HasItsExtents, is_at, inode_in, attributes_in, extents_in, extent_in_item, covered_bytes, is_inline_extent, asks_inode, whole_in, whole_said, whole_by_mode, existing_in, existing_said, made_by_mode, names_in, ranges_in, entries_in}
-use Rattle.log_image.specs.LogRules.{LogFault, FaultyItem, Unaccepted, LogRule, StrayItem, LacksInode, OtherKind, PastLimits, MoreThanExists, WrongExtents, RootNamed, NamesClash, begins_inside, first_fault, first_broken, after_items, accepted_log, broken_rules, objectids_in, log_of, has_its_key, is_stray, of_value, is_there, differs, passes_limits, keeps_limits, is_empty, has_more, is_one, has_wrong_extents, do_clash, does_break}
-use Rattle.log_image.specs.Laws.{AreRead}
-use Rattle.log_image.proofs.OneLog.{at_gives, at_from, same_gets}
-use Rattle.log_image.proofs.Limits.{limits_give, limits_from}
-use Rattle.log_image.proofs.Keys.{key_gives, key_from}
-use Rattle.log_image.proofs.Clashes.{said_once, names_apart, clash_from}
-use Rattle.log_image.proofs.Sayings.{SaidBy, said_by, NamedBy, named_by, first_near, first_far, kind_by_mode, whole_mode_kind, made_mode_kind, made_twice, record_mode_kind, same_mode}
-use Rattle.log_image.proofs.Broken.{first_none, none_first, said_objectid, whole_objectid, none_broken, broken_none}
+use Rattle.flat_model.specs.Records.{InodeRecord}
+use Rattle.flat_model.specs.Names.{name_set}
+use Rattle.logged_volume.specs.FlatLog.{WholeInode}
+use Rattle.logged_volume.proofs.Members.{none_from, none_gives, get_map_of_all}
+use Rattle.volume_image.specs.Subvolume.{Data}
+use Rattle.log_image.specs.LogItems.{HasItsExtents, inode_in, is_inline_extent, whole_in, whole_said, whole_by_mode, existing_in, existing_said, made_by_mode, names_in, ranges_in, entries_in}
+use Rattle.log_image.specs.LogRules.{objectids_in, log_of, is_empty, has_more, is_one, has_wrong_extents}
+use Rattle.log_image.proofs.Broken.{said_objectid, whole_objectid}
 
 -- ---- the log of items
 

@@ -1,30 +1,27 @@
 -- No fault and no broken rule: what that says of each item and each objectid.
-use Rattle.std.proofs.Common.{◌≡◌, ◌≢◌, ◌≤◌, ◌⊎◌, ◌&&◌, ◌||◌, ◌++◌, ℕ, Bool, true, false, not, cond, List, [], ◌∷◌, Contains, Option, Some, None, Result, Ok, Err, IsTrue, nat_eq, filter, map, flat_map, refl, sym, ap, ap₂, subst, ◌∙◌, inl, inr, arith}
+use Rattle.std.proofs.Common.{◌≡◌, ◌&&◌, ◌++◌, ℕ, Bool, true, false, List, [], ◌∷◌, Contains, Option, Some, None, nat_eq, filter, map, flat_map, refl, ap₂, subst, inl, inr, arith}
 use Rattle.std.specs.List.{list_any}
-use Rattle.std.proofs.lemmas.Bool.{and_parts, and_from, or_cases, or_left, or_right, or_parts, eqb-true, eq-eqb, false_from_ne_true, not-true}
-use Rattle.std.proofs.lemmas.List.Elements.{Contains-append_left, Contains-append_right, Contains-append_cases}
-use Rattle.std.specs.FinMap.{get}
+use Rattle.std.proofs.lemmas.Bool.{and_parts, or_cases, eqb-true, false_from_ne_true}
+use Rattle.std.proofs.lemmas.List.Elements.{Contains-append_left, Contains-append_right}
 use Rattle.blk_base.specs.declared.key.Key.{Key}
 use Rattle.blk_base.specs.declared.fault.ItemFault.{ItemFault}
-use Rattle.blk_base.specs.declared.fault.ItemFault.TheVariants.{Overlap}
 use Rattle.blk_base.specs.Leaf.{Item}
 use Rattle.blk_base.specs.Items.{InodeValue}
 use Rattle.blk_base.specs.ItemFaults.{log_item_fault}
 use Rattle.flat_model.specs.Names.{FlatName, stands_in}
 use Rattle.flat_model.specs.Volume.{Subvolume}
 use Rattle.flat_model.proofs.Lists.{filter_contains}
-use Rattle.logged_volume.specs.Numbers.{is_number_set}
-use Rattle.logged_volume.specs.FlatLog.{FlatLog, WholeInode}
+use Rattle.logged_volume.specs.FlatLog.{WholeInode}
 use Rattle.logged_volume.specs.Replay.{names_left}
-use Rattle.logged_volume.proofs.Members.{any_gives, any_from, number_set_has, number_set_gives, is_set_number_set, name_set_has}
+use Rattle.logged_volume.proofs.Members.{any_gives, number_set_has, name_set_has}
 use Rattle.logged_volume.proofs.Replays.{left_has}
 use Rattle.volume_image.specs.Subvolume.{Data}
 use Rattle.volume_image.proofs.Lists.{in_nothing, in_cons}
 use Rattle.volume_image.proofs.Reaches.{head_in, tail_in}
-use Rattle.volume_image.proofs.Members.{map_in, in_map, filter_in, flat_map_in, in_filter}
+use Rattle.volume_image.proofs.Members.{map_in, filter_in, flat_map_in}
 use Rattle.log_image.specs.LogItems.{inode_in, whole_in, whole_said, names_in}
 use Rattle.log_image.specs.LogRules.{begins_inside, fault_then, fault_or, fault_among, first_fault, objectids_in, log_of, LogRule, StrayItem, LacksInode, OtherKind, PastLimits, MoreThanExists, WrongExtents, RootNamed, NamesClash, all_rules, of_value, passes_limits, is_twice, do_meet, do_clash, does_break, objectids_left, broken_rules}
-use Rattle.log_image.proofs.Sayings.{said_by, in_flat_map}
+use Rattle.log_image.proofs.Sayings.{said_by}
 
 -- ---- faults of items
 

@@ -1,16 +1,16 @@
 -- The test of a directory's names says that they are apart.
-use Rattle.std.proofs.Common.{◌≡◌, ◌≢◌, ◌<◌, ◌≤◌, ◌&&◌, ◌||◌, ℕ, Bool, true, false, not, cond, List, [], ◌∷◌, Contains, IsTrue, nat_eq, nat_lt, bytes_eq, filter, sum_by, refl, sym, ap, subst, ◌∙◌, arith, inl, inr}
+use Rattle.std.proofs.Common.{◌≡◌, ◌≤◌, ◌||◌, ℕ, Bool, true, false, not, List, [], ◌∷◌, Contains, nat_eq, nat_lt, bytes_eq, filter, sum_by, refl, sym, ap, subst, ◌∙◌, arith, inl, inr}
 use Rattle.std.specs.List.{list_any}
-use Rattle.std.proofs.lemmas.Bool.{and_parts, and_from, or_cases, or_left, or_right, or_parts, eqb-true, eq-eqb, ltb-true, ltb-false, not-true, not-false, not_from_false, not_from_true, false_from_ne_true}
+use Rattle.std.proofs.lemmas.Bool.{and_parts, and_from, or_cases, or_left, or_right, or_parts, eqb-true, eq-eqb, ltb-true, ltb-false, not-true, not-false, false_from_ne_true}
 use Rattle.blk_base.specs.Crc.{name_hash_of}
-use Rattle.flat_model.specs.Names.{FlatName, is_name_set, is_same_name, stands_in, is_hashed_in, hashed_of}
+use Rattle.flat_model.specs.Names.{FlatName, is_same_name, stands_in, is_hashed_in}
 use Rattle.flat_model.specs.Lengths.{most_item_bytes, entry_length, dir_item_length}
 use Rattle.flat_model.proofs.Lists.{contains_filter, filter_contains, filter_empties}
 use Rattle.flat_model.proofs.NameSets.{is_same_name_true, is_same_name_itself}
 use Rattle.flat_model.proofs.Ways.{same_bytes_eq, bytes_eq_same}
 use Rattle.logged_volume.specs.FlatLog.{AreDistinct}
 use Rattle.logged_volume.specs.Accepted.{AreApart}
-use Rattle.logged_volume.proofs.Members.{any_from, any_gives, none_from, none_gives}
+use Rattle.logged_volume.proofs.Members.{any_gives, none_from, none_gives}
 use Rattle.log_image.specs.LogRules.{is_twice, do_meet, do_clash}
 
 -- ---- a name that stands twice

@@ -3,20 +3,19 @@ use Rattle.std.proofs.Common.{◌≡◌, ◌&&◌, ◌||◌, ◌++◌, ℕ, Bool
 use Rattle.std.specs.List.{list_all}
 use Rattle.std.specs.Cmp.{IsTotalOrder, nat_cmp_total}
 use Rattle.std.specs.Cmp.Lexicographic.{slice_cmp, nat_list_cmp_total}
-use Rattle.std.specs.FinMap.{get, find, put, entries, empty, from_entries, get-from_entries, entries-insert}
+use Rattle.std.specs.FinMap.{find, put, entries, empty, from_entries, get-from_entries, entries-insert}
 use Rattle.blk_base.specs.Leaf.{Item}
 use Rattle.blk_base.specs.Items.{InodeValue, file_mode, dir_mode}
 use Rattle.flat_model.specs.Records.{InodeRecord}
 use Rattle.flat_model.specs.Contents.{most_file_bytes}
 use Rattle.flat_model.specs.Names.{FlatName, name_set}
-use Rattle.flat_model.specs.Volume.{Subvolume}
 use Rattle.logged_volume.specs.Numbers.{number_set}
-use Rattle.logged_volume.specs.FlatLog.{FlatLog, is_logged, is_covered, has_entry}
+use Rattle.logged_volume.specs.FlatLog.{is_logged, is_covered, has_entry}
 use Rattle.logged_volume.specs.Replay.{names_left}
 use Rattle.volume_image.specs.Subvolume.{Data}
 use Rattle.volume_image.proofs.Lists.{entries_empty}
 use Rattle.log_image.specs.LogItems.{inode_in, attributes_in, extents_in, blocks_of_extent, target_in, whole_in, whole_said, whole_by_mode, names_in, ranges_in, entries_in}
-use Rattle.log_image.specs.LogRules.{LogRule, StrayItem, LacksInode, OtherKind, PastLimits, MoreThanExists, WrongExtents, RootNamed, NamesClash, all_rules, log_of, objectids_in, of_value, differs, keeps_attribute, keeps_block, are_bytes, keeps_limits, passes_limits, do_clash, does_break, objectids_left, broken_rules}
+use Rattle.log_image.specs.LogRules.{LogRule, StrayItem, LacksInode, OtherKind, PastLimits, MoreThanExists, WrongExtents, RootNamed, NamesClash, all_rules, log_of, objectids_in, of_value, differs, keeps_attribute, keeps_block, are_bytes, keeps_limits, passes_limits, do_clash, does_break, broken_rules}
 use Rattle.log_image.proofs.Accepted.{whole_of_log, existing_of_log}
 
 -- ---- entries of maps that are made of entries

@@ -1,25 +1,25 @@
 -- A log without a fault is that of its items and accepted, and the other way round.
-use Rattle.std.proofs.Common.{◌≡◌, ◌≢◌, ◌<◌, ◌≤◌, ◌+◌, ◌⊎◌, ◌&&◌, ◌||◌, ◌↔◌, ℕ, Bool, true, false, not, cond, is_some, List, [], ◌∷◌, Contains, Option, Some, None, Result, Ok, Err, IsTrue, IsFalse, nat_eq, nat_lt, filter, refl, sym, ap, ap₂, subst, ◌∙◌, inl, inr, arith}
+use Rattle.std.proofs.Common.{◌≡◌, ◌≢◌, ◌<◌, ◌≤◌, ◌+◌, ◌⊎◌, ◌&&◌, ◌||◌, ◌↔◌, ℕ, Bool, true, false, not, is_some, List, [], ◌∷◌, Contains, Option, Some, None, Ok, nat_eq, nat_lt, refl, sym, ap, ap₂, subst, ◌∙◌, inl, inr, arith}
 use Rattle.std.specs.List.{list_any}
-use Rattle.std.proofs.lemmas.Bool.{and_parts, and_from, or_cases, or_left, or_right, or_parts, eqb-true, eq-eqb, lt-ltb, ltb-true, ltb-false, not-true, not-false, not_from_true, false_from_ne_true, cases_Bool}
+use Rattle.std.proofs.lemmas.Bool.{and_parts, and_from, or_cases, or_left, or_right, eqb-true, eq-eqb, lt-ltb, ltb-true, ltb-false, not-true, not-false, not_from_true, false_from_ne_true}
 use Rattle.std.specs.FinMap.{get}
 use Rattle.blk_base.specs.declared.key.Key.{Key}
 use Rattle.blk_base.specs.declared.fault.ItemFault.{ItemFault}
-use Rattle.blk_base.specs.Keys.{inode_item, inode_ref, inode_extref, extent_data}
+use Rattle.blk_base.specs.Keys.{inode_ref, inode_extref, extent_data}
 use Rattle.blk_base.specs.Leaf.{Item}
-use Rattle.blk_base.specs.Items.{InodeValue, inode_value, file_mode, dir_mode, link_mode}
-use Rattle.blk_base.specs.ItemFaults.{log_item_fault, is_log_kind}
+use Rattle.blk_base.specs.Items.{InodeValue, file_mode, dir_mode, link_mode}
+use Rattle.blk_base.specs.ItemFaults.{is_log_kind}
 use Rattle.item_laws.proofs.FaultLaws.{log_item_spelled, log_item_faultless}
 use Rattle.flat_model.specs.Records.{InodeRecord, kind_of}
-use Rattle.flat_model.specs.Names.{FlatName, name_set, is_name_set}
+use Rattle.flat_model.specs.Names.{FlatName, is_name_set}
 use Rattle.flat_model.specs.Volume.{Subvolume}
 use Rattle.logged_volume.specs.FlatLog.{FlatLog, WholeInode, is_logged}
 use Rattle.logged_volume.specs.Replay.{names_left}
 use Rattle.logged_volume.specs.Accepted.{IsAccepted, kind_of_whole}
 use Rattle.logged_volume.proofs.Members.{any_gives, any_from, none_from, none_gives, name_set_gives, name_set_has, is_set_name_set}
 use Rattle.volume_image.specs.Subvolume.{Data, mode_of}
-use Rattle.log_image.specs.LogItems.{AreItemsOfLog, IsLogItem, is_at, inode_in, attributes_in, extents_in, extent_in_item, covered_bytes, asks_inode, whole_in, whole_by_mode, existing_in, made_by_mode, names_in}
-use Rattle.log_image.specs.LogRules.{LogFault, FaultyItem, Unaccepted, LogRule, StrayItem, LacksInode, OtherKind, PastLimits, MoreThanExists, WrongExtents, RootNamed, NamesClash, begins_inside, first_fault, first_broken, after_items, accepted_log, broken_rules, log_of, has_its_key, is_stray, of_value, is_there, differs, passes_limits, keeps_limits, has_more, has_wrong_extents, do_clash, does_break}
+use Rattle.log_image.specs.LogItems.{AreItemsOfLog, IsLogItem, is_at, inode_in, attributes_in, extents_in, extent_in_item, covered_bytes, asks_inode, whole_in, whole_by_mode, made_by_mode, names_in}
+use Rattle.log_image.specs.LogRules.{LogRule, StrayItem, LacksInode, OtherKind, PastLimits, MoreThanExists, WrongExtents, RootNamed, NamesClash, begins_inside, first_fault, first_broken, after_items, accepted_log, broken_rules, log_of, has_its_key, is_stray, of_value, is_there, differs, passes_limits, keeps_limits, has_more, has_wrong_extents, do_clash, does_break}
 use Rattle.log_image.specs.Laws.{AreRead}
 use Rattle.log_image.proofs.OneLog.{at_gives, at_from, same_gets}
 use Rattle.log_image.proofs.Limits.{limits_give, limits_from}

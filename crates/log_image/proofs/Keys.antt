@@ -4,10 +4,9 @@ use Rattle.std.specs.List.{list_all, AllByRecursion}
 use Rattle.std.proofs.lemmas.Bool.{and_parts, and_from, eqb-true, eq-eqb}
 use Rattle.blk_base.specs.declared.key.Key.{Key}
 use Rattle.blk_base.specs.declared.fault.ItemFault.{ItemFault}
-use Rattle.blk_base.specs.Bytes.{IsBytes}
 use Rattle.blk_base.specs.Crc.{name_hash_of, extref_hash_of}
-use Rattle.blk_base.specs.Keys.{inode_item, inode_ref, inode_extref, xattr_item, dir_item, dir_index, extent_data}
-use Rattle.blk_base.specs.Entries.{ExtRefValue, EntryValue, IsExtRefs, IsEntries, extrefs_of, entries_of}
+use Rattle.blk_base.specs.Keys.{inode_item, inode_extref, xattr_item, dir_item, dir_index}
+use Rattle.blk_base.specs.Entries.{ExtRefValue, EntryValue, IsEntries, extrefs_of, entries_of}
 use Rattle.blk_base.specs.ItemFaults.{HasItsKey, IsLogSpelled, LeadsToInode, LeadsNowhere, is_log_kind}
 use Rattle.item_laws.specs.ExtRefs.{extrefs_to}
 use Rattle.item_laws.specs.Directories.{entries_to}

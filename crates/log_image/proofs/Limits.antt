@@ -7,13 +7,13 @@ use Rattle.std.proofs.lemmas.List.Elements.{All-contains, All-contains_itself, A
 use Rattle.std.specs.Cmp.{nat_cmp_total}
 use Rattle.std.specs.Cmp.Lexicographic.{slice_cmp, nat_list_cmp_total}
 use Rattle.std.specs.FinMap.{get, entries, nat_cmp-IsAntisymmetric, slice_cmp-IsAntisymmetric}
-use Rattle.blk_base.specs.Name.{IsName, is_name}
+use Rattle.blk_base.specs.Name.{is_name}
 use Rattle.blk_base.proofs.NameLemmas.{is_name_decides}
 use Rattle.flat_model.specs.Records.{Attributes, Blocks}
 use Rattle.flat_model.specs.Contents.{block_bytes, most_file_bytes}
-use Rattle.flat_model.specs.Coherent.{AreBytes, IsNameBytes, KeepAttributeLimits, KeepsBlockLimits, KeepsLinkLimits}
+use Rattle.flat_model.specs.Coherent.{AreBytes, IsNameBytes, KeepAttributeLimits, KeepsBlockLimits}
 use Rattle.logged_volume.specs.FlatLog.{WholeInode, WholeFile, WholeDir, WholeLink}
-use Rattle.logged_volume.specs.Accepted.{KeepsChangeLimits, KeepsWholeLimits}
+use Rattle.logged_volume.specs.Accepted.{KeepsWholeLimits}
 use Rattle.logged_volume.proofs.Members.{all_gives, all_from}
 use Rattle.volume_image.proofs.Members.{get_in, in_get}
 use Rattle.log_image.specs.LogRules.{are_bytes, keeps_attribute, keep_attributes, keeps_block, keeps_limits}

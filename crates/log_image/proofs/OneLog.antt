@@ -1,5 +1,5 @@
 -- Items are those of one flat log, by the data that they lead to alone.
-use Rattle.std.proofs.Common.{◌≡◌, ◌<◌, ◌+◌, ◌*◌, ◌/◌, ◌++◌, ℕ, zero, suc, Bool, true, List, [], ◌∷◌, Contains, Option, Some, None, Result, Ok, Err, nat_cmp, nat_eq, filter, flat_map, cond, refl, sym, ap, ap₂, subst, ◌∙◌, arith}
+use Rattle.std.proofs.Common.{◌≡◌, ◌<◌, ◌+◌, ◌*◌, ◌/◌, ◌++◌, ℕ, zero, suc, true, List, [], ◌∷◌, Contains, Option, Some, None, Result, Ok, Err, nat_cmp, nat_eq, filter, flat_map, cond, refl, sym, ap, ap₂, subst, ◌∙◌, arith}
 use Rattle.std.proofs.lemmas.Bool.{and_parts, and_from, eqb-true, eq-eqb}
 use Rattle.std.specs.Cmp.{nat_cmp_total}
 use Rattle.std.specs.FinMap.{FinMap, get, from_entries, nat_cmp-IsAntisymmetric}
@@ -7,7 +7,7 @@ use Rattle.blk_base.specs.declared.fault.ItemFault.{ItemFault}
 use Rattle.blk_base.specs.Keys.{extent_data}
 use Rattle.blk_base.specs.Leaf.{Item}
 use Rattle.blk_base.specs.Items.{InodeValue, file_mode, dir_mode}
-use Rattle.blk_base.specs.Extents.{ExtentValue, Inline, Regular, Hole, IsExtent, log_extent_of}
+use Rattle.blk_base.specs.Extents.{ExtentValue, Inline, Regular, Hole, log_extent_of}
 use Rattle.item_laws.specs.ExtentLaws.{log_extent_from}
 use Rattle.logged_volume.specs.FlatLog.{FlatLog, WholeInode, WholeFile, WholeDir, WholeLink}
 use Rattle.volume_image.specs.Subvolume.{Data, data_addresses}

@@ -1,5 +1,5 @@
 -- Planted logs break the rule that they are planted for, and no other.
-use Rattle.std.proofs.Common.{◌≡◌, refl, sym, ap, ap₂, ◌∙◌, ℕ, List, [], ◌∷◌, Option, Some, None, Result, Ok, Err, nat_cmp, nat_eq, nat_lt, cond, ◌||◌}
+use Rattle.std.proofs.Common.{◌≡◌, refl, ap, ap₂, ◌∙◌, ℕ, List, [], ◌∷◌, Option, Some, None, Ok, nat_cmp, nat_eq, nat_lt, cond, ◌||◌}
 use Rattle.std.specs.Cmp.{nat_cmp_total}
 use Rattle.std.specs.FinMap.{get, find, get-from_entries}
 use Rattle.blk_base.specs.Leaf.{Item}
@@ -11,7 +11,7 @@ use Rattle.blk_base.specs.Name.{is_name}
 use Rattle.blk_base.specs.Extents.{log_extent_of}
 use Rattle.blk_base.specs.Crc.{name_hash_of, register_after, crc_byte, crc_bits, crc_bit}
 use Rattle.flat_model.specs.Records.{InodeRecord, new_dir, new_link}
-use Rattle.flat_model.specs.Names.{FlatName, name_cmp, links_of}
+use Rattle.flat_model.specs.Names.{name_cmp, links_of}
 use Rattle.flat_model.specs.Lengths.{dir_item_length}
 use Rattle.logged_volume.specs.FlatLog.{WholeInode}
 use Rattle.logged_volume.specs.Replay.{replay, replayed_inode}

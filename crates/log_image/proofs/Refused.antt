@@ -1,5 +1,5 @@
 -- What a refusal names: the first faulty item, or the lowest objectid that breaks a rule.
-use Rattle.std.proofs.Common.{◌≡◌, ◌≢◌, ◌<◌, ◌≤◌, ◌⊎◌, ◌&&◌, ◌++◌, ◌↔◌, ℕ, Bool, true, false, List, [], ◌∷◌, Contains, Option, Some, None, Result, Ok, Err, IsTrue, nat_eq, nat_lt, filter, map, flat_map, refl, sym, ap, subst, ◌∙◌, inl, inr, arith}
+use Rattle.std.proofs.Common.{◌≡◌, ◌≤◌, ◌++◌, ◌↔◌, ℕ, true, List, [], ◌∷◌, Contains, Option, Some, None, Result, Err, nat_lt, filter, map, flat_map, refl, sym, ap, subst, ◌∙◌, inl, inr, arith}
 use Rattle.std.specs.List.{list_all}
 use Rattle.std.proofs.lemmas.Bool.{and_parts, ltb-true}
 use Rattle.std.proofs.lemmas.List.Elements.{Contains-append_cases}
@@ -13,7 +13,7 @@ use Rattle.logged_volume.specs.FlatLog.{FlatLog}
 use Rattle.logged_volume.specs.Replay.{names_left}
 use Rattle.logged_volume.proofs.Members.{all_gives, is_set_number_set}
 use Rattle.volume_image.specs.Subvolume.{Data}
-use Rattle.volume_image.proofs.Lists.{in_nothing, in_cons}
+use Rattle.volume_image.proofs.Lists.{in_nothing}
 use Rattle.volume_image.proofs.Reaches.{head_in}
 use Rattle.volume_image.proofs.Members.{in_map, in_filter}
 use Rattle.log_image.specs.LogRules.{LogFault, FaultyItem, Unaccepted, LogRule, all_rules, first_fault, first_broken, after_items, accepted_log, broken_rules, objectids_left, objectids_in, log_of, does_break}

@@ -1,10 +1,9 @@
 -- What the items of a log say: which item says it, and what is read of items that are spelled.
-use Rattle.std.proofs.Common.{◌≡◌, ◌≢◌, ◌⊎◌, ◌&&◌, ◌||◌, ℕ, Bool, true, false, not, cond, List, [], ◌∷◌, Contains, Option, Some, None, Result, Ok, Err, IsTrue, nat_eq, filter, map, find, flat_map, refl, sym, ap, subst, ◌∙◌, inl, inr}
-use Rattle.std.proofs.lemmas.Bool.{and_parts, and_from, or_left, or_right, eqb-true, eq-eqb, ne_eqb, cases_Bool}
+use Rattle.std.proofs.Common.{◌≡◌, ◌≢◌, ◌⊎◌, ℕ, Bool, true, false, cond, List, [], ◌∷◌, Contains, Option, Some, None, Result, Ok, nat_eq, map, find, flat_map, refl, sym, ap, subst, ◌∙◌, inl, inr}
+use Rattle.std.proofs.lemmas.Bool.{eqb-true, eq-eqb}
 use Rattle.std.proofs.lemmas.List.Elements.{Contains-append_cases}
-use Rattle.blk_base.specs.declared.key.Key.{Key}
 use Rattle.blk_base.specs.declared.fault.ItemFault.{ItemFault}
-use Rattle.blk_base.specs.Keys.{inode_item, inode_ref, inode_extref, xattr_item, dir_index, extent_data}
+use Rattle.blk_base.specs.Keys.{inode_item, inode_ref, inode_extref}
 use Rattle.blk_base.specs.Leaf.{Item}
 use Rattle.blk_base.specs.Items.{InodeValue, inode_value, file_mode, dir_mode, link_mode}
 use Rattle.blk_base.specs.Entries.{RefValue, ExtRefValue, refs_of, extrefs_of}
@@ -15,14 +14,13 @@ use Rattle.flat_model.specs.declared.view.Kind.{Kind}
 use Rattle.flat_model.specs.declared.view.Kind.TheVariants.{File, Dir, Link}
 use Rattle.flat_model.specs.Records.{InodeRecord, FileInode, DirInode, LinkInode, kind_of, at_creation}
 use Rattle.flat_model.specs.Names.{FlatName}
-use Rattle.logged_volume.specs.FlatLog.{WholeInode}
 use Rattle.logged_volume.specs.Accepted.{kind_of_whole}
 use Rattle.volume_image.specs.Subvolume.{Data, mode_of}
-use Rattle.volume_image.proofs.Lists.{in_nothing, in_cons}
+use Rattle.volume_image.proofs.Lists.{in_nothing}
 use Rattle.volume_image.proofs.Reaches.{head_in, tail_in}
-use Rattle.volume_image.proofs.Members.{in_map, map_in, flat_map_in}
-use Rattle.log_image.specs.LogItems.{read_or, is_at, value_of_item, inode_in, asks_inode, near_name, far_name, names_in_item, names_in, whole_by_mode, made_by_mode, whole_in, whole_said, existing_in, existing_said}
-use Rattle.log_image.proofs.OneLog.{at_gives, at_from}
+use Rattle.volume_image.proofs.Members.{in_map, flat_map_in}
+use Rattle.log_image.specs.LogItems.{read_or, is_at, value_of_item, inode_in, near_name, far_name, names_in_item, names_in, whole_by_mode, made_by_mode}
+use Rattle.log_image.proofs.OneLog.{at_gives}
 
 -- ---- lists
 

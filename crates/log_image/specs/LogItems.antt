@@ -12,7 +12,7 @@ use Rattle.blk_base.specs.Items.{InodeValue, inode_value, range_of, file_mode, d
 use Rattle.blk_base.specs.Entries.{RefValue, ExtRefValue, EntryValue, refs_of, extrefs_of, entries_of}
 use Rattle.blk_base.specs.Extents.{ExtentValue, Inline, Regular, Hole, log_extent_of}
 use Rattle.blk_base.specs.ItemFaults.{IsLogSpelled, HasItsKey, is_log_kind}
-use Rattle.flat_model.specs.Records.{Attributes, Blocks, InodeRecord, new_file, new_dir, new_link}
+use Rattle.flat_model.specs.Records.{Attributes, InodeRecord, new_file, new_dir, new_link}
 use Rattle.flat_model.specs.Names.{FlatName, name_set, stands_in}
 use Rattle.logged_volume.specs.FlatLog.{FileChanges, WholeInode, WholeFile, WholeDir, WholeLink, LogRange, LogEntry, FlatLog, AreDistinct}
 use Rattle.volume_image.specs.Subvolume.{Data, data_addresses}

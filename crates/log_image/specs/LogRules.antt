@@ -6,20 +6,20 @@ use Rattle.blk_base.specs.declared.key.Key.{Key}
 use Rattle.blk_base.specs.declared.fault.ItemFault.{ItemFault}
 use Rattle.blk_base.specs.declared.fault.ItemFault.TheVariants.{Overlap}
 use Rattle.blk_base.specs.Crc.{name_hash_of, extref_hash_of}
-use Rattle.blk_base.specs.Keys.{inode_item, inode_ref, inode_extref, xattr_item, dir_item, dir_index, extent_data}
+use Rattle.blk_base.specs.Keys.{inode_item, inode_ref, inode_extref, xattr_item, dir_index, extent_data}
 use Rattle.blk_base.specs.Leaf.{Item}
 use Rattle.blk_base.specs.Name.{is_name}
-use Rattle.blk_base.specs.Items.{InodeValue, file_mode, dir_mode, link_mode}
+use Rattle.blk_base.specs.Items.{InodeValue, file_mode, link_mode}
 use Rattle.blk_base.specs.Entries.{EntryValue, extrefs_of, entries_of}
 use Rattle.blk_base.specs.Extents.{ExtentValue}
 use Rattle.blk_base.specs.ItemFaults.{log_item_fault, is_log_kind}
-use Rattle.flat_model.specs.Records.{Attributes, Blocks, InodeRecord}
+use Rattle.flat_model.specs.Records.{Attributes, InodeRecord}
 use Rattle.flat_model.specs.Names.{FlatName, name_set, is_same_name, stands_in}
 use Rattle.flat_model.specs.Lengths.{most_item_bytes, dir_item_length}
 use Rattle.flat_model.specs.Contents.{block_bytes, most_file_bytes}
 use Rattle.flat_model.specs.Volume.{Subvolume}
 use Rattle.logged_volume.specs.Numbers.{number_set, map_of}
-use Rattle.logged_volume.specs.FlatLog.{FileChanges, WholeInode, WholeFile, WholeDir, WholeLink, FlatLog}
+use Rattle.logged_volume.specs.FlatLog.{WholeInode, WholeFile, WholeDir, WholeLink, FlatLog}
 use Rattle.logged_volume.specs.Replay.{names_left}
 use Rattle.volume_image.specs.Subvolume.{Data, mode_of}
 use Rattle.log_image.specs.LogItems.{read_or, is_at, inode_in, attributes_in, extents_in, extent_in_item, covered_bytes, is_inline_extent, asks_inode, whole_in, existing_in, names_in, ranges_in, entries_in}

@@ -2,8 +2,8 @@
 use Rattle.std.specs.Prelude.{◌≡◌, ◌+◌, ℕ, true, List, [], ◌∷◌, ◌++◌, None, Err, replicate}
 use Rattle.std.specs.FinMap.{from_entries}
 use Rattle.blk_base.specs.Leaf.{Item}
-use Rattle.blk_base.specs.Items.{InodeValue, inode_bytes, file_mode, dir_mode, link_mode}
-use Rattle.blk_base.specs.Entries.{RefValue, EntryValue, ref_bytes, entry_bytes}
+use Rattle.blk_base.specs.Items.{inode_bytes, file_mode, dir_mode, link_mode}
+use Rattle.blk_base.specs.Entries.{ref_bytes, entry_bytes}
 use Rattle.flat_model.specs.Records.{InodeRecord, new_file, new_dir}
 use Rattle.flat_model.specs.Names.{FlatName}
 use Rattle.flat_model.specs.Volume.{Subvolume}
