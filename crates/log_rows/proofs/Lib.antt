@@ -1,2 +1,2 @@
-pub mod Gets
+pub mod Computing
 pub mod StepLogs
