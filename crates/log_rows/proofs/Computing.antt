@@ -1,23 +1,24 @@
 -- Drawn sets, rules, log steps and logs of subvolumes that are made of entries, computed from the entries.
 use Rattle.std.proofs.Common.{◌≡◌, ◌&&◌, ◌||◌, ◌++◌, ℕ, Bool, true, false, not, cond, is_some, List, [], ◌∷◌, Option, Some, None, nat_cmp, nat_eq, nat_lt, filter, map, length, refl, sym, ap, ◌∙◌}
-use Rattle.std.specs.Option.{unwrap_or}
+use Rattle.std.specs.Option.{unwrap_or, option_map}
 use Rattle.std.specs.List.{list_any}
 use Rattle.std.specs.Cmp.{nat_cmp_total}
-use Rattle.std.specs.FinMap.{get, find, from_entries, get-from_entries}
+use Rattle.std.specs.FinMap.{get, insert, find, from_entries, get-from_entries}
 use Rattle.flat_model.specs.declared.answer.Reason.{Reason}
 use Rattle.flat_model.specs.declared.answer.Reason.TheVariants.{Conflicts, GoneDir}
 use Rattle.flat_model.specs.Records.{InodeRecord, at_creation}
 use Rattle.flat_model.specs.Names.{FlatName, name_set, stands_in}
 use Rattle.flat_model.specs.Volume.{Subvolume, is_dir_there}
 use Rattle.logged_volume.specs.Numbers.{is_in, reached}
-use Rattle.logged_volume.specs.Agreement.{do_names_differ}
-use Rattle.logged_volume.specs.Drawn.{dirs_above, is_parent, is_in_slots_of, all_numbers, least_set, drawn_set, first_of}
+use Rattle.logged_volume.specs.Agreement.{is_there, do_names_differ}
+use Rattle.logged_volume.specs.Drawn.{dirs_above, is_parent, is_in_slots_of, all_numbers, least_set, drawn_set, conflicts_of, first_of}
 use Rattle.logged_volume.specs.Rules.{RoomNumbers, room_reason, commit_reason}
-use Rattle.logged_volume.specs.LogStep.{stepped, log_step}
+use Rattle.logged_volume.specs.LogStep.{stepped, with_data, log_step}
 use Rattle.logged_volume.specs.FlatLog.{LogRange, LogEntry, FlatLog, is_covered}
 use Rattle.logged_volume.specs.Written.{ranges_of, entries_in}
 use Rattle.logged_volume.proofs.Stepped.{stepped_inode}
 use Rattle.log_rows.specs.Rows.{with}
+use Rattle.log_rows.proofs.StepLogs.{step_has_log}
 use Rattle.log_rows.specs.Written.{each_once, is_same_range, is_same_entry, written_log}
 
 pub gets : (inodes : List (ℕ × InodeRecord)) (ino : ℕ) → get (from_entries {R = nat_cmp} inodes) ino ≡ find nat_cmp ino inodes
@@ -48,6 +49,9 @@ module _ (here : List (ℕ × InodeRecord)) (names : List FlatName) (there : Lis
       (λ ino. nat_eq ino target
       || (is_dir_there (gets here target i)
       && (do_names_differ (with here names) (with there others) ino && (is_parent names ino target || is_parent others ino target))))
+
+  pub conflicts_are : conflicts_of (with here names) (with there others) target false ≡ filter (λ ino. not (is_in (least_by false) ino)) (least_by true)
+  conflicts_are = λ i. filter (λ ino. not (is_in (least_is false i) ino)) (least_is true i)
 
   abbrev pub stranded_by : List ℕ → Option ℕ
   stranded_by members =
@@ -85,6 +89,16 @@ module _ (here : List (ℕ × InodeRecord)) (names : List FlatName) (there : Lis
       stepped_inode (with here names) (with there others) target (drawn_set (with here names) (with there others) target) ino
       ∙ (λ i. record_by (least_is true i) ino (gets here ino i) (gets there ino i))
 
+  -- ---- R after the data form of a step
+
+  pub data_step : (was inode : InodeRecord) → find nat_cmp target there ≡ Some was → find nat_cmp target here ≡ Some inode
+      → log_step (with here names) (with there others) target true ≡ record (with there others) { inodes = insert (with there others).inodes target inode }
+  unfolding with_data
+  data_step was inode has now =
+      let had : is_there (with there others) target ≡ true = ap is_some (gets there target ∙ has) in
+      (λ i. cond (had i) (with_data (with here names) (with there others) target) (stepped (with here names) (with there others) target (drawn_set (with here names) (with there others) target)))
+      ∙ (λ i. elim ((gets here target ∙ now) i) as (λ r. Subvolume) [ None ↦ with there others | Some inode ↦ record (with there others) { inodes = insert (with there others).inodes target inode } ])
+
   -- ---- the log of the step, over C with these inodes and names
 
   module _ (had : List (ℕ × InodeRecord)) (were : List FlatName) (log : FlatLog) where
@@ -111,3 +125,27 @@ module _ (here : List (ℕ × InodeRecord)) (names : List FlatName) (there : Lis
         (listed_at (least_is true i) (λ ino. is_some (gets here ino i)) (is_dir_there (gets here target i))
         ++ map (λ (name : FlatName). record { dir = name.dir; first = name.index; last = name.index })
         (filter (λ name. not (is_some (record_is name.ino i)) && not (is_covered (listed_at (least_is true i) (λ ino. is_some (gets here ino i)) (is_dir_there (gets here target i))) name.dir name.index)) were))
+
+    pub entries_are : (written_log (with had were) (with here names) (with there others) target false log).entries
+        ≡ each_once is_same_entry
+        (filter (λ entry. not (is_in (least_by true) entry.dir && not (there_by here entry.dir)) && (not (is_in (least_by true) entry.ino && not (there_by here entry.ino)) && not (nat_eq entry.dir target && is_dir_there (find nat_cmp target here)))) log.entries
+        ++ cond (is_dir_there (find nat_cmp target here)) (entries_in (with here names) target (ranges_of (with had were) (with here names) target)) [])
+    unfolding written_log
+    entries_are =
+        λ i. each_once is_same_entry
+        (filter (λ (entry : LogEntry). not (is_in (least_is true i) entry.dir && not (is_some (gets here entry.dir i))) && (not (is_in (least_is true i) entry.ino && not (is_some (gets here entry.ino i))) && not (nat_eq entry.dir target && is_dir_there (gets here target i)))) log.entries
+        ++ cond (is_dir_there (gets here target i)) (entries_in (with here names) target (ranges_of (with had were) (with here names) target)) [])
+
+    -- what the log has of an inode other than the target
+    pub whole_is : (ino : ℕ) → (ino ≡ target → ⊥) → there_by here target ≡ true
+        → get (written_log (with had were) (with here names) (with there others) target false log).whole ino ≡ cond (is_in (least_by true) ino && not (there_by here ino)) None (get log.whole ino)
+    whole_is ino other is =
+        (step_has_log (with had were) (with here names) (with there others) target false log (ap is_some (gets here target) ∙ is)).whole ino other
+        ∙ (λ i. cond (is_in (least_is true i) ino && not (is_some (gets here ino i))) None (get log.whole ino))
+
+    pub existing_is : (ino : ℕ) → there_by here target ≡ true
+        → get (written_log (with had were) (with here names) (with there others) target false log).existing ino
+        ≡ cond (nat_eq ino target) None (cond (is_in (least_by true) ino && not (is_some (get log.whole ino))) (option_map at_creation (find nat_cmp ino here)) (get log.existing ino))
+    existing_is ino is =
+        (step_has_log (with had were) (with here names) (with there others) target false log (ap is_some (gets here target) ∙ is)).existing ino
+        ∙ (λ i. cond (nat_eq ino target) None (cond (is_in (least_is true i) ino && not (is_some (get log.whole ino))) (option_map at_creation (gets here ino i)) (get log.existing ino)))

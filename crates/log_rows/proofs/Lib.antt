@@ -1,2 +1,3 @@
-pub mod Computing
 pub mod StepLogs
+pub mod Computing
+pub mod RowLemmas

@@ -1,0 +1,178 @@
+-- The worked rows, computed.
+use Rattle.std.proofs.Common.{◌≡◌, ℕ, List, [], ◌∷◌, Option, Some, None, true, false, nat_cmp, refl, ap, ◌∙◌, arith}
+use Rattle.std.specs.Cmp.{nat_cmp_total}
+use Rattle.std.specs.FinMap.{get, get-from_entries}
+use Rattle.blk_base.specs.Crc.{name_hash_of, register_after, crc_byte, crc_bits, crc_bit}
+use Rattle.flat_model.specs.declared.answer.Reason.TheVariants.{GoneDir}
+use Rattle.flat_model.specs.Names.{name_cmp}
+use Rattle.flat_model.specs.Records.{new_dir, new_file}
+use Rattle.flat_model.proofs.Maps.{get_insert_same}
+use Rattle.logged_volume.specs.Numbers.{reached}
+use Rattle.logged_volume.specs.Agreement.{do_names_differ}
+use Rattle.logged_volume.specs.Drawn.{dirs_above, drawn_set, conflicts_of}
+use Rattle.logged_volume.specs.LogStep.{log_step}
+use Rattle.logged_volume.specs.Rules.{commit_reason}
+use Rattle.logged_volume.specs.FlatLog.{empty_log}
+use Rattle.log_rows.specs.Written.{written_log}
+use Rattle.flat_model.specs.Volume.{Subvolume}
+use Rattle.log_rows.specs.Rows.{ample, one_byte, with, file_of, range, renamed_inodes, renamed_names, remade_inodes, remade_names, pair_inodes, pair_names, crossed_names, nested_inodes, nested_names, turned_names, filled_inodes, filled_names, emptied_inodes, emptied_names, bare_inodes, left_inodes, left_names, replaced_inodes, replaced_names, row_inodes, row_names, shifted_inodes, shifted_names, again_inodes, again_names, deep_inodes, deep_names, moved_names, cut_inodes, grown_inodes, cut_names, grown_whole, grown_log, emptied_log}
+use Rattle.log_rows.proofs.Computing.{gets, least_is, conflicts_are, reason_is, names_are, record_is, data_step, ranges_are, entries_are, whole_is, existing_is}
+
+pub renamed_drawn : drawn_set (with remade_inodes remade_names) (with renamed_inodes renamed_names) 258 ≡ 257 ∷ 258 ∷ []
+unfolding dirs_above reached do_names_differ name_hash_of register_after crc_byte crc_bits crc_bit
+renamed_drawn = least_is remade_inodes remade_names renamed_inodes renamed_names 258 true
+
+pub renamed_reason : commit_reason (with remade_inodes remade_names) (with renamed_inodes renamed_names) 258 false ample ≡ None
+unfolding dirs_above reached do_names_differ name_hash_of register_after crc_byte crc_bits crc_bit
+renamed_reason = reason_is remade_inodes remade_names renamed_inodes renamed_names 258 ample
+
+pub renamed_after : (log_step (with remade_inodes remade_names) (with renamed_inodes renamed_names) 258 false).names ≡ remade_names
+unfolding dirs_above reached do_names_differ name_hash_of register_after crc_byte crc_bits crc_bit name_cmp
+renamed_after = names_are remade_inodes remade_names renamed_inodes renamed_names 258
+
+pub crossed_drawn : drawn_set (with pair_inodes crossed_names) (with pair_inodes pair_names) 258 ≡ 257 ∷ 258 ∷ []
+unfolding dirs_above reached do_names_differ name_hash_of register_after crc_byte crc_bits crc_bit
+crossed_drawn = least_is pair_inodes crossed_names pair_inodes pair_names 258 true
+
+pub crossed_reason : commit_reason (with pair_inodes crossed_names) (with pair_inodes pair_names) 258 false ample ≡ None
+unfolding dirs_above reached do_names_differ name_hash_of register_after crc_byte crc_bits crc_bit
+crossed_reason = reason_is pair_inodes crossed_names pair_inodes pair_names 258 ample
+
+pub crossed_after : (log_step (with pair_inodes crossed_names) (with pair_inodes pair_names) 258 false).names ≡ crossed_names
+unfolding dirs_above reached do_names_differ name_hash_of register_after crc_byte crc_bits crc_bit name_cmp
+crossed_after = names_are pair_inodes crossed_names pair_inodes pair_names 258
+
+pub turned_drawn : drawn_set (with nested_inodes turned_names) (with nested_inodes nested_names) 257 ≡ 257 ∷ 258 ∷ []
+unfolding dirs_above reached do_names_differ name_hash_of register_after crc_byte crc_bits crc_bit
+turned_drawn = least_is nested_inodes turned_names nested_inodes nested_names 257 true
+
+pub turned_reason : commit_reason (with nested_inodes turned_names) (with nested_inodes nested_names) 257 false ample ≡ None
+unfolding dirs_above reached do_names_differ name_hash_of register_after crc_byte crc_bits crc_bit
+turned_reason = reason_is nested_inodes turned_names nested_inodes nested_names 257 ample
+
+pub turned_after : (log_step (with nested_inodes turned_names) (with nested_inodes nested_names) 257 false).names ≡ turned_names
+unfolding dirs_above reached do_names_differ name_hash_of register_after crc_byte crc_bits crc_bit name_cmp
+turned_after = names_are nested_inodes turned_names nested_inodes nested_names 257
+
+pub moved_drawn : drawn_set (with deep_inodes moved_names) (with deep_inodes deep_names) 260 ≡ 257 ∷ 258 ∷ 260 ∷ []
+unfolding dirs_above reached do_names_differ name_hash_of register_after crc_byte crc_bits crc_bit
+moved_drawn = least_is deep_inodes moved_names deep_inodes deep_names 260 true
+
+pub moved_reason : commit_reason (with deep_inodes moved_names) (with deep_inodes deep_names) 260 false ample ≡ None
+unfolding dirs_above reached do_names_differ name_hash_of register_after crc_byte crc_bits crc_bit
+moved_reason = reason_is deep_inodes moved_names deep_inodes deep_names 260 ample
+
+pub moved_after : (log_step (with deep_inodes moved_names) (with deep_inodes deep_names) 260 false).names ≡ moved_names
+unfolding dirs_above reached do_names_differ name_hash_of register_after crc_byte crc_bits crc_bit name_cmp
+moved_after = names_are deep_inodes moved_names deep_inodes deep_names 260
+
+pub emptied_drawn : drawn_set (with emptied_inodes emptied_names) (with filled_inodes filled_names) 257 ≡ 257 ∷ 258 ∷ []
+unfolding dirs_above reached do_names_differ name_hash_of register_after crc_byte crc_bits crc_bit
+emptied_drawn = least_is emptied_inodes emptied_names filled_inodes filled_names 257 true
+
+pub emptied_reason : commit_reason (with emptied_inodes emptied_names) (with filled_inodes filled_names) 257 false ample ≡ None
+unfolding dirs_above reached do_names_differ name_hash_of register_after crc_byte crc_bits crc_bit
+emptied_reason = reason_is emptied_inodes emptied_names filled_inodes filled_names 257 ample
+
+pub emptied_after : (log_step (with emptied_inodes emptied_names) (with filled_inodes filled_names) 257 false).names ≡ emptied_names
+unfolding dirs_above reached do_names_differ name_hash_of register_after crc_byte crc_bits crc_bit name_cmp
+emptied_after = names_are emptied_inodes emptied_names filled_inodes filled_names 257
+
+pub removed_drawn : drawn_set (with bare_inodes []) (with emptied_inodes emptied_names) 256 ≡ 256 ∷ 257 ∷ []
+unfolding dirs_above reached do_names_differ name_hash_of register_after crc_byte crc_bits crc_bit
+removed_drawn = least_is bare_inodes [] emptied_inodes emptied_names 256 true
+
+pub removed_reason : commit_reason (with bare_inodes []) (with emptied_inodes emptied_names) 256 false ample ≡ None
+unfolding dirs_above reached do_names_differ name_hash_of register_after crc_byte crc_bits crc_bit
+removed_reason = reason_is bare_inodes [] emptied_inodes emptied_names 256 ample
+
+pub removed_after : (log_step (with bare_inodes []) (with emptied_inodes emptied_names) 256 false).names ≡ []
+unfolding dirs_above reached do_names_differ name_hash_of register_after crc_byte crc_bits crc_bit name_cmp
+removed_after = names_are bare_inodes [] emptied_inodes emptied_names 256
+
+pub replaced_drawn : drawn_set (with replaced_inodes replaced_names) (with left_inodes left_names) 260 ≡ 258 ∷ 260 ∷ []
+unfolding dirs_above reached do_names_differ name_hash_of register_after crc_byte crc_bits crc_bit
+replaced_drawn = least_is replaced_inodes replaced_names left_inodes left_names 260 true
+
+pub replaced_reason : commit_reason (with replaced_inodes replaced_names) (with left_inodes left_names) 260 false ample ≡ Some (GoneDir (record { 0 = 258 }))
+unfolding dirs_above reached do_names_differ name_hash_of register_after crc_byte crc_bits crc_bit
+replaced_reason = reason_is replaced_inodes replaced_names left_inodes left_names 260 ample
+
+pub shifted_drawn : drawn_set (with shifted_inodes shifted_names) (with row_inodes row_names) 260 ≡ 257 ∷ 258 ∷ 259 ∷ 260 ∷ []
+unfolding dirs_above reached do_names_differ name_hash_of register_after crc_byte crc_bits crc_bit
+shifted_drawn = least_is shifted_inodes shifted_names row_inodes row_names 260 true
+
+pub shifted_reason : commit_reason (with shifted_inodes shifted_names) (with row_inodes row_names) 260 false ample ≡ None
+unfolding dirs_above reached do_names_differ name_hash_of register_after crc_byte crc_bits crc_bit
+shifted_reason = reason_is shifted_inodes shifted_names row_inodes row_names 260 ample
+
+pub shifted_after : (log_step (with shifted_inodes shifted_names) (with row_inodes row_names) 260 false).names ≡ shifted_names
+unfolding dirs_above reached do_names_differ name_hash_of register_after crc_byte crc_bits crc_bit name_cmp
+shifted_after = names_are shifted_inodes shifted_names row_inodes row_names 260
+
+pub again_drawn : drawn_set (with again_inodes again_names) (with renamed_inodes renamed_names) 258 ≡ 257 ∷ 258 ∷ []
+unfolding dirs_above reached do_names_differ name_hash_of register_after crc_byte crc_bits crc_bit
+again_drawn = least_is again_inodes again_names renamed_inodes renamed_names 258 true
+
+pub again_reason : commit_reason (with again_inodes again_names) (with renamed_inodes renamed_names) 258 false ample ≡ None
+unfolding dirs_above reached do_names_differ name_hash_of register_after crc_byte crc_bits crc_bit
+again_reason = reason_is again_inodes again_names renamed_inodes renamed_names 258 ample
+
+pub again_after : (log_step (with again_inodes again_names) (with renamed_inodes renamed_names) 258 false).names ≡ again_names
+unfolding dirs_above reached do_names_differ name_hash_of register_after crc_byte crc_bits crc_bit name_cmp
+again_after = names_are again_inodes again_names renamed_inodes renamed_names 258
+
+pub cut_drawn : drawn_set (with cut_inodes cut_names) (with grown_inodes renamed_names) 256 ≡ 256 ∷ 257 ∷ []
+unfolding dirs_above reached do_names_differ name_hash_of register_after crc_byte crc_bits crc_bit
+cut_drawn = least_is cut_inodes cut_names grown_inodes renamed_names 256 true
+
+pub cut_reason : commit_reason (with cut_inodes cut_names) (with grown_inodes renamed_names) 256 false ample ≡ None
+unfolding dirs_above reached do_names_differ name_hash_of register_after crc_byte crc_bits crc_bit
+cut_reason = reason_is cut_inodes cut_names grown_inodes renamed_names 256 ample
+
+pub cut_after : (log_step (with cut_inodes cut_names) (with grown_inodes renamed_names) 256 false).names ≡ cut_names
+unfolding dirs_above reached do_names_differ name_hash_of register_after crc_byte crc_bits crc_bit name_cmp
+cut_after = names_are cut_inodes cut_names grown_inodes renamed_names 256
+
+pub emptied_ranges : (written_log (with filled_inodes filled_names) (with emptied_inodes emptied_names) (with filled_inodes filled_names) 257 false empty_log).ranges ≡ range 257 0 18_446_744_073_709_551_615 ∷ []
+unfolding dirs_above reached do_names_differ name_hash_of register_after crc_byte crc_bits crc_bit name_cmp
+emptied_ranges = ranges_are emptied_inodes emptied_names filled_inodes filled_names 257 filled_inodes filled_names empty_log
+
+pub removed_ranges : (written_log (with filled_inodes filled_names) (with bare_inodes []) (with emptied_inodes emptied_names) 256 false emptied_log).ranges ≡ range 256 0 18_446_744_073_709_551_615 ∷ range 257 3 3 ∷ []
+unfolding dirs_above reached do_names_differ name_hash_of register_after crc_byte crc_bits crc_bit name_cmp
+removed_ranges = ranges_are bare_inodes [] emptied_inodes emptied_names 256 filled_inodes filled_names emptied_log
+
+pub again_ranges : (written_log (with renamed_inodes renamed_names) (with again_inodes again_names) (with renamed_inodes renamed_names) 258 false empty_log).ranges ≡ range 256 2 2 ∷ []
+unfolding dirs_above reached do_names_differ name_hash_of register_after crc_byte crc_bits crc_bit name_cmp
+again_ranges = ranges_are again_inodes again_names renamed_inodes renamed_names 258 renamed_inodes renamed_names empty_log
+
+pub shifted_conflicts : conflicts_of (with shifted_inodes shifted_names) (with row_inodes row_names) 260 false ≡ 257 ∷ 258 ∷ 259 ∷ []
+unfolding dirs_above reached do_names_differ name_hash_of register_after crc_byte crc_bits crc_bit
+shifted_conflicts = conflicts_are shifted_inodes shifted_names row_inodes row_names 260
+
+pub again_gone : get (log_step (with again_inodes again_names) (with renamed_inodes renamed_names) 258 false).inodes 257 ≡ None
+unfolding dirs_above reached do_names_differ name_hash_of register_after crc_byte crc_bits crc_bit
+again_gone = record_is again_inodes again_names renamed_inodes renamed_names 258 257
+
+pub renamed_kept : get (log_step (with remade_inodes remade_names) (with renamed_inodes renamed_names) 258 false).inodes 257 ≡ Some (file_of 2)
+unfolding dirs_above reached do_names_differ name_hash_of register_after crc_byte crc_bits crc_bit
+renamed_kept = record_is remade_inodes remade_names renamed_inodes renamed_names 258 257
+
+pub cut_kept : get (log_step (with cut_inodes cut_names) (with grown_inodes renamed_names) 256 false).inodes 257 ≡ Some (file_of 4096)
+unfolding dirs_above reached do_names_differ name_hash_of register_after crc_byte crc_bits crc_bit
+cut_kept = record_is cut_inodes cut_names grown_inodes renamed_names 256 257
+
+pub cut_whole : get (written_log (with bare_inodes []) (with cut_inodes cut_names) (with grown_inodes renamed_names) 256 false grown_log).whole 257 ≡ Some grown_whole
+unfolding dirs_above reached do_names_differ name_hash_of register_after crc_byte crc_bits crc_bit
+cut_whole = whole_is cut_inodes cut_names grown_inodes renamed_names 256 bare_inodes [] grown_log 257 (λ e. absurd (omega arith)) refl ∙ gets_whole
+  where
+    gets_whole : get grown_log.whole 257 ≡ Some grown_whole
+    gets_whole = get-from_entries nat_cmp_total ((257, grown_whole) ∷ []) 257
+
+pub data_names : (log_step (with ((256, new_dir) ∷ (257, file_of 9) ∷ []) (one_byte 256 3 98 257 ∷ [])) (with renamed_inodes renamed_names) 257 true).names ≡ renamed_names
+data_names = ap (λ (sub : Subvolume). sub.names) (data_step ((256, new_dir) ∷ (257, file_of 9) ∷ []) (one_byte 256 3 98 257 ∷ []) renamed_inodes renamed_names 257 (file_of 2) (file_of 9) refl refl)
+
+pub data_record : get (log_step (with ((256, new_dir) ∷ (257, file_of 9) ∷ []) (one_byte 256 3 98 257 ∷ [])) (with renamed_inodes renamed_names) 257 true).inodes 257 ≡ Some (file_of 9)
+data_record =
+    ap (λ (sub : Subvolume). get sub.inodes 257) (data_step ((256, new_dir) ∷ (257, file_of 9) ∷ []) (one_byte 256 3 98 257 ∷ []) renamed_inodes renamed_names 257 (file_of 2) (file_of 9) refl refl)
+    ∙ get_insert_same (with renamed_inodes renamed_names).inodes 257 (file_of 9)
