@@ -1,9 +1,9 @@
 -- Drawn sets, rules, log steps and logs of subvolumes that are made of entries, computed from the entries.
-use Rattle.std.proofs.Common.{◌≡◌, ◌&&◌, ◌||◌, ◌++◌, ℕ, Bool, true, false, not, cond, is_some, List, [], ◌∷◌, Option, Some, None, nat_cmp, nat_eq, nat_lt, filter, map, length, refl, sym, ap, ◌∙◌}
+use Rattle.std.proofs.Common.{◌≡◌, ◌&&◌, ◌||◌, ◌++◌, ℕ, Bool, true, false, not, cond, is_some, List, [], Option, Some, None, nat_cmp, nat_eq, nat_lt, filter, map, length, ap, ◌∙◌}
 use Rattle.std.specs.Option.{unwrap_or, option_map}
 use Rattle.std.specs.List.{list_any}
 use Rattle.std.specs.Cmp.{nat_cmp_total}
-use Rattle.std.specs.FinMap.{get, insert, find, from_entries, get-from_entries}
+use Rattle.std.specs.FinMap.{get, insert, find, empty, from_entries, get-empty, get-from_entries}
 use Rattle.flat_model.specs.declared.answer.Reason.{Reason}
 use Rattle.flat_model.specs.declared.answer.Reason.TheVariants.{Conflicts, GoneDir}
 use Rattle.flat_model.specs.Records.{InodeRecord, at_creation}
@@ -14,7 +14,9 @@ use Rattle.logged_volume.specs.Agreement.{is_there, do_names_differ}
 use Rattle.logged_volume.specs.Drawn.{dirs_above, is_parent, is_in_slots_of, all_numbers, least_set, drawn_set, conflicts_of, first_of}
 use Rattle.logged_volume.specs.Rules.{RoomNumbers, room_reason, commit_reason}
 use Rattle.logged_volume.specs.LogStep.{stepped, with_data, log_step}
-use Rattle.logged_volume.specs.FlatLog.{LogRange, LogEntry, FlatLog, is_covered}
+use Rattle.logged_volume.specs.FlatLog.{WholeInode, LogRange, LogEntry, FlatLog, is_covered}
+use Rattle.logged_volume.specs.Replay.{replay, names_left}
+use Rattle.logged_volume.proofs.Replays.{replay_names}
 use Rattle.logged_volume.specs.Written.{ranges_of, entries_in}
 use Rattle.logged_volume.proofs.Stepped.{stepped_inode}
 use Rattle.log_rows.specs.Rows.{with}
@@ -149,3 +151,14 @@ module _ (here : List (ℕ × InodeRecord)) (names : List FlatName) (there : Lis
     existing_is ino is =
         (step_has_log (with had were) (with here names) (with there others) target false log (ap is_some (gets here target) ∙ is)).existing ino
         ∙ (λ i. cond (nat_eq ino target) None (cond (is_in (least_is true i) ino && not (is_some (get log.whole ino))) (option_map at_creation (gets here ino i)) (get log.existing ino)))
+
+-- ---- replay of a log with these whole inodes, names and ranges, and no entries
+
+pub replayed_is : (had : List (ℕ × InodeRecord)) (were : List FlatName) (whole : List (ℕ × WholeInode)) (names : List FlatName) (ranges : List LogRange)
+    → (replay (with had were) (record { whole = from_entries whole; existing = empty; names = names; ranges = ranges; entries = [] })).names
+    ≡ name_set (names ++ filter (λ name. not (is_covered ranges name.dir name.index && not false) && not (is_some (find nat_cmp name.ino whole) || false)) were)
+unfolding names_left
+replayed_is had were whole names ranges =
+    replay_names (with had were) (record { whole = from_entries whole; existing = empty; names = names; ranges = ranges; entries = [] })
+    ∙ (λ i. name_set (names ++ filter (λ name. not (is_covered ranges name.dir name.index && not false)
+    && not (is_some (get-from_entries {R = nat_cmp} nat_cmp_total whole name.ino i) || is_some (get-empty {X = InodeRecord} nat_cmp name.ino i))) were))

@@ -1,22 +1,22 @@
 -- The worked rows, computed.
-use Rattle.std.proofs.Common.{◌≡◌, ℕ, List, [], ◌∷◌, Option, Some, None, true, false, nat_cmp, refl, ap, ◌∙◌, arith}
+use Rattle.std.proofs.Common.{◌≡◌, [], ◌∷◌, Some, None, true, false, refl, ap, ◌∙◌, arith}
 use Rattle.std.specs.Cmp.{nat_cmp_total}
-use Rattle.std.specs.FinMap.{get, get-from_entries}
+use Rattle.std.specs.FinMap.{get, empty, get-from_entries}
 use Rattle.blk_base.specs.Crc.{name_hash_of, register_after, crc_byte, crc_bits, crc_bit}
-use Rattle.flat_model.specs.declared.answer.Reason.TheVariants.{GoneDir}
+use Rattle.flat_model.specs.declared.answer.Reason.TheVariants.{Conflicts, GoneDir}
 use Rattle.flat_model.specs.Names.{name_cmp}
-use Rattle.flat_model.specs.Records.{new_dir, new_file}
 use Rattle.flat_model.proofs.Maps.{get_insert_same}
 use Rattle.logged_volume.specs.Numbers.{reached}
 use Rattle.logged_volume.specs.Agreement.{do_names_differ}
-use Rattle.logged_volume.specs.Drawn.{dirs_above, drawn_set, conflicts_of}
+use Rattle.logged_volume.specs.Drawn.{dirs_above, drawn_set}
 use Rattle.logged_volume.specs.LogStep.{log_step}
 use Rattle.logged_volume.specs.Rules.{commit_reason}
-use Rattle.logged_volume.specs.FlatLog.{empty_log}
+use Rattle.logged_volume.specs.FlatLog.{WholeDir, empty_log}
+use Rattle.logged_volume.specs.Replay.{replay}
 use Rattle.log_rows.specs.Written.{written_log}
 use Rattle.flat_model.specs.Volume.{Subvolume}
-use Rattle.log_rows.specs.Rows.{ample, one_byte, with, file_of, range, renamed_inodes, renamed_names, remade_inodes, remade_names, pair_inodes, pair_names, crossed_names, nested_inodes, nested_names, turned_names, filled_inodes, filled_names, emptied_inodes, emptied_names, bare_inodes, left_inodes, left_names, replaced_inodes, replaced_names, row_inodes, row_names, shifted_inodes, shifted_names, again_inodes, again_names, deep_inodes, deep_names, moved_names, cut_inodes, grown_inodes, cut_names, grown_whole, grown_log, emptied_log}
-use Rattle.log_rows.proofs.Computing.{gets, least_is, conflicts_are, reason_is, names_are, record_is, data_step, ranges_are, entries_are, whole_is, existing_is}
+use Rattle.log_rows.specs.Rows.{ample, with, file_of, range, renamed_inodes, renamed_names, remade_inodes, remade_names, pair_inodes, pair_names, crossed_names, nested_inodes, nested_names, turned_names, filled_inodes, filled_names, emptied_inodes, emptied_names, bare_inodes, left_inodes, left_names, replaced_inodes, replaced_names, eleven_inodes, eleven_names, eleven_shifted_inodes, eleven_shifted_names, ten_inodes, ten_names, ten_shifted_inodes, ten_shifted_names, resized_inodes, resized_names, again_inodes, again_names, deep_inodes, deep_names, moved_names, cut_inodes, grown_inodes, cut_names, grown_whole, grown_log, emptied_log, removed_log}
+use Rattle.log_rows.proofs.Computing.{least_is, reason_is, names_are, record_is, data_step, ranges_are, whole_is, replayed_is}
 
 pub renamed_drawn : drawn_set (with remade_inodes remade_names) (with renamed_inodes renamed_names) 258 ≡ 257 ∷ 258 ∷ []
 unfolding dirs_above reached do_names_differ name_hash_of register_after crc_byte crc_bits crc_bit
@@ -98,18 +98,6 @@ pub replaced_reason : commit_reason (with replaced_inodes replaced_names) (with 
 unfolding dirs_above reached do_names_differ name_hash_of register_after crc_byte crc_bits crc_bit
 replaced_reason = reason_is replaced_inodes replaced_names left_inodes left_names 260 ample
 
-pub shifted_drawn : drawn_set (with shifted_inodes shifted_names) (with row_inodes row_names) 260 ≡ 257 ∷ 258 ∷ 259 ∷ 260 ∷ []
-unfolding dirs_above reached do_names_differ name_hash_of register_after crc_byte crc_bits crc_bit
-shifted_drawn = least_is shifted_inodes shifted_names row_inodes row_names 260 true
-
-pub shifted_reason : commit_reason (with shifted_inodes shifted_names) (with row_inodes row_names) 260 false ample ≡ None
-unfolding dirs_above reached do_names_differ name_hash_of register_after crc_byte crc_bits crc_bit
-shifted_reason = reason_is shifted_inodes shifted_names row_inodes row_names 260 ample
-
-pub shifted_after : (log_step (with shifted_inodes shifted_names) (with row_inodes row_names) 260 false).names ≡ shifted_names
-unfolding dirs_above reached do_names_differ name_hash_of register_after crc_byte crc_bits crc_bit name_cmp
-shifted_after = names_are shifted_inodes shifted_names row_inodes row_names 260
-
 pub again_drawn : drawn_set (with again_inodes again_names) (with renamed_inodes renamed_names) 258 ≡ 257 ∷ 258 ∷ []
 unfolding dirs_above reached do_names_differ name_hash_of register_after crc_byte crc_bits crc_bit
 again_drawn = least_is again_inodes again_names renamed_inodes renamed_names 258 true
@@ -146,10 +134,6 @@ pub again_ranges : (written_log (with renamed_inodes renamed_names) (with again_
 unfolding dirs_above reached do_names_differ name_hash_of register_after crc_byte crc_bits crc_bit name_cmp
 again_ranges = ranges_are again_inodes again_names renamed_inodes renamed_names 258 renamed_inodes renamed_names empty_log
 
-pub shifted_conflicts : conflicts_of (with shifted_inodes shifted_names) (with row_inodes row_names) 260 false ≡ 257 ∷ 258 ∷ 259 ∷ []
-unfolding dirs_above reached do_names_differ name_hash_of register_after crc_byte crc_bits crc_bit
-shifted_conflicts = conflicts_are shifted_inodes shifted_names row_inodes row_names 260
-
 pub again_gone : get (log_step (with again_inodes again_names) (with renamed_inodes renamed_names) 258 false).inodes 257 ≡ None
 unfolding dirs_above reached do_names_differ name_hash_of register_after crc_byte crc_bits crc_bit
 again_gone = record_is again_inodes again_names renamed_inodes renamed_names 258 257
@@ -169,10 +153,30 @@ cut_whole = whole_is cut_inodes cut_names grown_inodes renamed_names 256 bare_in
     gets_whole : get grown_log.whole 257 ≡ Some grown_whole
     gets_whole = get-from_entries nat_cmp_total ((257, grown_whole) ∷ []) 257
 
-pub data_names : (log_step (with ((256, new_dir) ∷ (257, file_of 9) ∷ []) (one_byte 256 3 98 257 ∷ [])) (with renamed_inodes renamed_names) 257 true).names ≡ renamed_names
-data_names = ap (λ (sub : Subvolume). sub.names) (data_step ((256, new_dir) ∷ (257, file_of 9) ∷ []) (one_byte 256 3 98 257 ∷ []) renamed_inodes renamed_names 257 (file_of 2) (file_of 9) refl refl)
+pub data_names : (log_step (with resized_inodes resized_names) (with renamed_inodes renamed_names) 257 true).names ≡ renamed_names
+data_names = ap (λ (sub : Subvolume). sub.names) (data_step resized_inodes resized_names renamed_inodes renamed_names 257 (file_of 2) (file_of 9) refl refl)
 
-pub data_record : get (log_step (with ((256, new_dir) ∷ (257, file_of 9) ∷ []) (one_byte 256 3 98 257 ∷ [])) (with renamed_inodes renamed_names) 257 true).inodes 257 ≡ Some (file_of 9)
+pub data_record : get (log_step (with resized_inodes resized_names) (with renamed_inodes renamed_names) 257 true).inodes 257 ≡ Some (file_of 9)
 data_record =
-    ap (λ (sub : Subvolume). get sub.inodes 257) (data_step ((256, new_dir) ∷ (257, file_of 9) ∷ []) (one_byte 256 3 98 257 ∷ []) renamed_inodes renamed_names 257 (file_of 2) (file_of 9) refl refl)
+    ap (λ (sub : Subvolume). get sub.inodes 257) (data_step resized_inodes resized_names renamed_inodes renamed_names 257 (file_of 2) (file_of 9) refl refl)
     ∙ get_insert_same (with renamed_inodes renamed_names).inodes 257 (file_of 9)
+
+pub eleven_reason : commit_reason (with eleven_shifted_inodes eleven_shifted_names) (with eleven_inodes eleven_names) 268 false ample ≡ Some (Conflicts 11)
+unfolding dirs_above reached do_names_differ name_hash_of register_after crc_byte crc_bits crc_bit
+eleven_reason = reason_is eleven_shifted_inodes eleven_shifted_names eleven_inodes eleven_names 268 ample
+
+pub ten_reason : commit_reason (with ten_shifted_inodes ten_shifted_names) (with ten_inodes ten_names) 267 false ample ≡ None
+unfolding dirs_above reached do_names_differ name_hash_of register_after crc_byte crc_bits crc_bit
+ten_reason = reason_is ten_shifted_inodes ten_shifted_names ten_inodes ten_names 267 ample
+
+pub ten_after : (log_step (with ten_shifted_inodes ten_shifted_names) (with ten_inodes ten_names) 267 false).names ≡ ten_shifted_names
+unfolding dirs_above reached do_names_differ name_hash_of register_after crc_byte crc_bits crc_bit name_cmp
+ten_after = names_are ten_shifted_inodes ten_shifted_names ten_inodes ten_names 267
+
+pub emptied_replayed : (replay (with filled_inodes filled_names) emptied_log).names ≡ emptied_names
+unfolding name_cmp
+emptied_replayed = replayed_is filled_inodes filled_names ((257, WholeDir (record { attributes = empty })) ∷ []) emptied_log.names emptied_log.ranges
+
+pub removed_replayed : (replay (with filled_inodes filled_names) removed_log).names ≡ []
+unfolding name_cmp
+removed_replayed = replayed_is filled_inodes filled_names ((256, WholeDir (record { attributes = empty })) ∷ []) [] removed_log.ranges

@@ -1,21 +1,21 @@
 -- The log of a step is one that the step writes.
-use Rattle.std.proofs.Common.{◌≡◌, ℕ, Bool, true, false, cond, not, ◌&&◌, ◌||◌, ◌⊎◌, ◌↔◌, List, [], ◌∷◌, ◌++◌, Contains, Option, Some, None, filter, nat_eq, bytes_eq, refl, sym, ap, subst, ◌∙◌, inl, inr}
+use Rattle.std.proofs.Common.{◌≡◌, ℕ, Bool, true, false, cond, not, ◌&&◌, ◌↔◌, List, [], ◌∷◌, ◌++◌, Contains, Option, Some, None, nat_eq, bytes_eq, refl, sym, ap, subst, ◌∙◌, inl, inr}
 use Rattle.std.specs.Option.{option_map, is_some}
 use Rattle.std.specs.List.{list_any}
 use Rattle.std.specs.FinMap.{get, keys}
-use Rattle.std.proofs.lemmas.Bool.{and_parts, and_from, eqb-true, eq-eqb, false_from_ne_true, or_left}
+use Rattle.std.proofs.lemmas.Bool.{and_parts, and_from, eqb-true, eq-eqb, false_from_ne_true}
 use Rattle.std.proofs.lemmas.List.Elements.{Contains-append_left, Contains-append_right}
 use Rattle.flat_model.specs.Records.{InodeRecord, FileInode, DirInode, LinkInode}
 use Rattle.flat_model.specs.Volume.{Subvolume}
-use Rattle.flat_model.proofs.Lists.{contains_head, contains_tail, contains_none, contains_cases}
+use Rattle.flat_model.proofs.Lists.{contains_head, contains_tail, contains_cases}
 use Rattle.flat_model.proofs.Ways.{same_bytes_eq, bytes_eq_same}
 use Rattle.logged_volume.specs.Numbers.{is_in, map_of}
 use Rattle.logged_volume.specs.Agreement.{is_there}
 use Rattle.logged_volume.specs.Drawn.{drawn_set, is_data_form}
 use Rattle.logged_volume.specs.LogStep.{log_step}
 use Rattle.logged_volume.specs.FlatLog.{WholeInode, LogRange, LogEntry, FlatLog, AreDistinct}
-use Rattle.logged_volume.specs.Written.{IsWholeOf, HasTarget, IsFsyncWritten, IsDataWritten, IsWritten, is_gone, written_existing, written_ranges, written_entries}
-use Rattle.logged_volume.proofs.Members.{any_from, any_gives, in_from, in_gives, get_map_of, get_map_of_all, key_is_in}
+use Rattle.logged_volume.specs.Written.{IsWholeOf, IsFsyncWritten, IsDataWritten, IsWritten, is_gone, written_existing, written_ranges, written_entries}
+use Rattle.logged_volume.proofs.Members.{any_from, any_gives, in_gives, get_map_of_all, key_is_in}
 use Rattle.logged_volume.proofs.Stepped.{there_gives}
 use Rattle.log_rows.specs.Written.{whole_of, whole_after, each_once, is_same_range, is_same_entry, fsync_log, data_log, written_log}
 

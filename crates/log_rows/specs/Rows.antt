@@ -94,19 +94,77 @@ replaced_inodes = (256, new_dir) ∷ (257, new_dir) ∷ (259, new_file) ∷ (260
 abbrev pub replaced_names : List FlatName
 replaced_names = one_byte 256 2 113 257 ∷ one_byte 256 6 103 260 ∷ one_byte 257 5 99 259 ∷ []
 
--- ---- `/3` to `/4`, `/2` to `/3` and `/1` to `/2` are renamed, and another `/1` made
+-- ---- eleven files, whose names are the bytes from 49 on, are renamed each to the next name, the last one first, and another file gets the first name
 
-abbrev pub row_inodes : List (ℕ × InodeRecord)
-row_inodes = (256, new_dir) ∷ (257, new_file) ∷ (258, new_file) ∷ (259, new_file) ∷ []
+abbrev pub eleven_inodes : List (ℕ × InodeRecord)
+eleven_inodes = (256, new_dir) ∷ (257, new_file) ∷ (258, new_file) ∷ (259, new_file) ∷ (260, new_file) ∷ (261, new_file) ∷ (262, new_file) ∷ (263, new_file) ∷ (264, new_file) ∷ (265, new_file) ∷ (266, new_file) ∷ (267, new_file) ∷ []
 
-abbrev pub row_names : List FlatName
-row_names = one_byte 256 2 49 257 ∷ one_byte 256 3 50 258 ∷ one_byte 256 4 51 259 ∷ []
+abbrev pub eleven_names : List FlatName
+eleven_names =
+    one_byte 256 2 49 257
+    ∷ one_byte 256 3 50 258
+    ∷ one_byte 256 4 51 259
+    ∷ one_byte 256 5 52 260
+    ∷ one_byte 256 6 53 261
+    ∷ one_byte 256 7 54 262
+    ∷ one_byte 256 8 55 263
+    ∷ one_byte 256 9 56 264
+    ∷ one_byte 256 10 57 265
+    ∷ one_byte 256 11 58 266
+    ∷ one_byte 256 12 59 267 ∷ []
 
-abbrev pub shifted_inodes : List (ℕ × InodeRecord)
-shifted_inodes = (256, new_dir) ∷ (257, new_file) ∷ (258, new_file) ∷ (259, new_file) ∷ (260, new_file) ∷ []
+abbrev pub eleven_shifted_inodes : List (ℕ × InodeRecord)
+eleven_shifted_inodes = (256, new_dir) ∷ (257, new_file) ∷ (258, new_file) ∷ (259, new_file) ∷ (260, new_file) ∷ (261, new_file) ∷ (262, new_file) ∷ (263, new_file) ∷ (264, new_file) ∷ (265, new_file) ∷ (266, new_file) ∷ (267, new_file) ∷ (268, new_file) ∷ []
 
-abbrev pub shifted_names : List FlatName
-shifted_names = one_byte 256 5 52 259 ∷ one_byte 256 6 51 258 ∷ one_byte 256 7 50 257 ∷ one_byte 256 8 49 260 ∷ []
+abbrev pub eleven_shifted_names : List FlatName
+eleven_shifted_names =
+    one_byte 256 13 60 267
+    ∷ one_byte 256 14 59 266
+    ∷ one_byte 256 15 58 265
+    ∷ one_byte 256 16 57 264
+    ∷ one_byte 256 17 56 263
+    ∷ one_byte 256 18 55 262
+    ∷ one_byte 256 19 54 261
+    ∷ one_byte 256 20 53 260
+    ∷ one_byte 256 21 52 259
+    ∷ one_byte 256 22 51 258
+    ∷ one_byte 256 23 50 257
+    ∷ one_byte 256 24 49 268 ∷ []
+
+-- ---- and with ten
+
+abbrev pub ten_inodes : List (ℕ × InodeRecord)
+ten_inodes = (256, new_dir) ∷ (257, new_file) ∷ (258, new_file) ∷ (259, new_file) ∷ (260, new_file) ∷ (261, new_file) ∷ (262, new_file) ∷ (263, new_file) ∷ (264, new_file) ∷ (265, new_file) ∷ (266, new_file) ∷ []
+
+abbrev pub ten_names : List FlatName
+ten_names =
+    one_byte 256 2 49 257
+    ∷ one_byte 256 3 50 258
+    ∷ one_byte 256 4 51 259
+    ∷ one_byte 256 5 52 260
+    ∷ one_byte 256 6 53 261
+    ∷ one_byte 256 7 54 262
+    ∷ one_byte 256 8 55 263
+    ∷ one_byte 256 9 56 264
+    ∷ one_byte 256 10 57 265
+    ∷ one_byte 256 11 58 266 ∷ []
+
+abbrev pub ten_shifted_inodes : List (ℕ × InodeRecord)
+ten_shifted_inodes = (256, new_dir) ∷ (257, new_file) ∷ (258, new_file) ∷ (259, new_file) ∷ (260, new_file) ∷ (261, new_file) ∷ (262, new_file) ∷ (263, new_file) ∷ (264, new_file) ∷ (265, new_file) ∷ (266, new_file) ∷ (267, new_file) ∷ []
+
+abbrev pub ten_shifted_names : List FlatName
+ten_shifted_names =
+    one_byte 256 12 59 266
+    ∷ one_byte 256 13 58 265
+    ∷ one_byte 256 14 57 264
+    ∷ one_byte 256 15 56 263
+    ∷ one_byte 256 16 55 262
+    ∷ one_byte 256 17 54 261
+    ∷ one_byte 256 18 53 260
+    ∷ one_byte 256 19 52 259
+    ∷ one_byte 256 20 51 258
+    ∷ one_byte 256 21 50 257
+    ∷ one_byte 256 22 49 267 ∷ []
 
 -- ---- `/a` is unlinked, and another `/a` made
 
@@ -126,6 +184,14 @@ deep_names = one_byte 256 2 121 257 ∷ one_byte 257 3 112 258 ∷ one_byte 257 
 
 abbrev pub moved_names : List FlatName
 moved_names = one_byte 256 6 112 258 ∷ one_byte 257 5 102 260 ∷ one_byte 258 4 113 259 ∷ one_byte 259 7 121 257 ∷ []
+
+-- ---- `/b`, once `/a`, has another size
+
+abbrev pub resized_inodes : List (ℕ × InodeRecord)
+resized_inodes = (256, new_dir) ∷ (257, file_of 9) ∷ []
+
+abbrev pub resized_names : List FlatName
+resized_names = one_byte 256 3 98 257 ∷ []
 
 -- ---- `/a` of 4096 bytes is synced, then cut to 5 bytes and renamed to `/c`
 
@@ -152,5 +218,15 @@ emptied_log = record {
   existing = empty;
   names = one_byte 256 2 100 257 ∷ [];
   ranges = range 257 0 18_446_744_073_709_551_615 ∷ [];
+  entries = [];
+}
+
+-- what an fsync of `/` wrote after `/d` was removed: the root directory whole, a range of all its indexes, and one of the index that `/d/x` had
+abbrev pub removed_log : FlatLog
+removed_log = record {
+  whole = from_entries ((256, WholeDir (record { attributes = empty })) ∷ []);
+  existing = empty;
+  names = [];
+  ranges = range 256 0 18_446_744_073_709_551_615 ∷ range 257 3 3 ∷ [];
   entries = [];
 }

@@ -3,7 +3,7 @@ use Rattle.std.specs.Prelude.{ℕ, Bool, cond, not, ◌&&◌, List, [], ◌∷�
 use Rattle.std.specs.List.{list_any}
 use Rattle.std.specs.FinMap.{get, keys}
 use Rattle.flat_model.specs.Records.{InodeRecord, FileInode, DirInode, LinkInode}
-use Rattle.flat_model.specs.Names.{FlatName, name_set, leads_to}
+use Rattle.flat_model.specs.Names.{name_set, leads_to}
 use Rattle.flat_model.specs.Volume.{Subvolume}
 use Rattle.logged_volume.specs.Numbers.{is_in, map_of}
 use Rattle.logged_volume.specs.Drawn.{drawn_set, is_data_form}
