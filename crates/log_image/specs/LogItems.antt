@@ -186,8 +186,8 @@ asks_inode kind = nat_eq kind inode_ref || (nat_eq kind inode_extref || (nat_eq 
 abbrev pub is_inline_extent : ℕ × ExtentValue → Bool
 is_inline_extent extent = elim extent.1 [ Inline content ↦ true | Regular at offset len ↦ false | Hole len ↦ false ]
 
--- a symlink has exactly one extent, an inline one; a file has no inline one; a directory has none; and where the log only says that an inode exists, it has none
--- but a symlink's
+-- a symlink has exactly one extent, an inline one; a file has no inline one; a directory has none; and an inode that the log only says exists has none but
+-- a symlink's
 pub record HasItsExtents (value : InodeValue) (extents : List (ℕ × ExtentValue)) : Type 0 where
   pub link : value.mode ≡ link_mode → (extent : ℕ × ExtentValue) × (extents ≡ extent ∷ []) × IsTrue (is_inline_extent extent)
   pub file : value.mode ≡ file_mode → (extent : ℕ × ExtentValue) → Contains extents extent → IsFalse (is_inline_extent extent)
@@ -200,7 +200,8 @@ pub record AreItemsOfLog (items : List Item) (blocks : Data) (log : FlatLog) : T
   pub rise : ItemsRise items
   pub only : (key : Key) (bytes : List ℕ) → Contains items (key, bytes) → IsLogItem key bytes
   -- each inode with names, attributes or extents has its item, and the extents that its kind has; one that only exists has no attributes
-  pub has_inode : (key : Key) (bytes : List ℕ) → Contains items (key, bytes) → IsTrue (asks_inode key.kind) → (value : InodeValue) × (inode_in items key.objectid ≡ Some value)
+  pub has_inode : (key : Key) (bytes : List ℕ) → Contains items (key, bytes) → IsTrue (asks_inode key.kind)
+      → (value : InodeValue) × (inode_in items key.objectid ≡ Some value)
   pub extents : (ino : ℕ) (value : InodeValue) → inode_in items ino ≡ Some value → HasItsExtents value (extents_in items ino)
   pub bare : (ino : ℕ) (value : InodeValue) → inode_in items ino ≡ Some value → value.generation ≡ 0 → attributes_in items ino ≡ []
   -- no two extents of an inode cover one byte, and each block that they lead to is there

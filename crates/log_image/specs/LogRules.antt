@@ -143,7 +143,8 @@ abbrev pub keeps_limits : WholeInode → Bool
 keeps_limits (WholeFile changes) =
     keep_attributes changes.attributes && (nat_le changes.size most_file_bytes && list_all (keeps_block changes.size) (entries changes.blocks))
 keeps_limits (WholeDir dir) = keep_attributes dir.attributes
-keeps_limits (WholeLink link) = keep_attributes link.attributes && (nat_le 1 (length link.target) && (nat_le (length link.target) 1023 && are_bytes link.target))
+keeps_limits (WholeLink link) =
+    keep_attributes link.attributes && (nat_le 1 (length link.target) && (nat_le (length link.target) 1023 && are_bytes link.target))
 
 abbrev pub passes_limits : Option WholeInode → Bool
 passes_limits None = false

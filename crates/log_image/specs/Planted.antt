@@ -1,14 +1,15 @@
 -- A small committed subvolume, a log that is accepted over it, and for each rule of accepted logs a log that breaks it alone.
-use Rattle.std.specs.Prelude.{◌≡◌, ◌+◌, ℕ, true, List, [], ◌∷◌, ◌++◌, None, Err, replicate}
-use Rattle.std.specs.FinMap.{from_entries}
+use Rattle.std.specs.Prelude.{◌≡◌, ◌+◌, ℕ, true, List, [], ◌∷◌, ◌++◌, Option, None, Err, replicate}
+use Rattle.std.specs.FinMap.{get, from_entries}
 use Rattle.blk_base.specs.Leaf.{Item}
 use Rattle.blk_base.specs.Items.{inode_bytes, file_mode, dir_mode, link_mode}
 use Rattle.blk_base.specs.Entries.{ref_bytes, entry_bytes}
 use Rattle.flat_model.specs.Records.{InodeRecord, new_file, new_dir}
 use Rattle.flat_model.specs.Names.{FlatName}
 use Rattle.flat_model.specs.Volume.{Subvolume}
+use Rattle.logged_volume.specs.Replay.{replay}
 use Rattle.volume_image.specs.Subvolume.{Data, make_key}
-use Rattle.log_image.specs.LogRules.{LogRule, Unaccepted, first_fault, broken_rules, accepted_log}
+use Rattle.log_image.specs.LogRules.{LogRule, Unaccepted, log_of, first_fault, broken_rules, accepted_log}
 
 -- ---- the committed subvolume: the file /a and the directory /d
 
@@ -18,8 +19,14 @@ near_in dir index byte ino = record { dir = dir; index = index; bytes = byte ∷
 abbrev pub had_inodes : List (ℕ × InodeRecord)
 had_inodes = (256, new_dir) ∷ (257, new_file) ∷ (258, new_dir) ∷ []
 
+abbrev pub name_a : FlatName
+name_a = near_in 256 2 97 257
+
+abbrev pub name_d : FlatName
+name_d = near_in 256 3 100 258
+
 abbrev pub had_names : List FlatName
-had_names = near_in 256 2 97 257 ∷ near_in 256 3 100 258 ∷ []
+had_names = name_a ∷ name_d ∷ []
 
 abbrev pub had : Subvolume
 had = record { inodes = from_entries had_inodes; names = had_names }
@@ -27,7 +34,8 @@ had = record { inodes = from_entries had_inodes; names = had_names }
 -- ---- items of a log, of generation 7 where an inode is whole
 
 abbrev pub inode_at : ℕ → ℕ → ℕ → ℕ → Item
-inode_at ino generation mode size = (make_key ino 1 0, inode_bytes (record { generation = generation; transid = 7; size = size; nbytes = 0; nlink = 1; mode = mode }))
+inode_at ino generation mode size =
+    (make_key ino 1 0, inode_bytes (record { generation = generation; transid = 7; size = size; nbytes = 0; nlink = 1; mode = mode }))
 
 abbrev pub ref_at : ℕ → ℕ → ℕ → ℕ → Item
 ref_at ino dir index byte = (make_key ino 12 dir, ref_bytes (record { index = index; name = byte ∷ [] }))
@@ -116,3 +124,10 @@ pub record IsRefusedFor (items : List Item) (ino : ℕ) (rule : LogRule) : Type 
   pub no_fault : first_fault items items ≡ None
   pub alone : (blocks : Data) → broken_rules had items blocks ≡ (ino, rule) ∷ []
   pub refused : (blocks : Data) → accepted_log had items blocks ≡ Err (Unaccepted ino)
+
+-- replay of the items' log would leave these names, and this record of the inode
+abbrev pub LeaveNames : List Item → List FlatName → Type 0
+LeaveNames items names = (blocks : Data) → (replay had (log_of items blocks)).names ≡ names
+
+abbrev pub LeaveInode : List Item → ℕ → Option InodeRecord → Type 0
+LeaveInode items ino inode = (blocks : Data) → get (replay had (log_of items blocks)).inodes ino ≡ inode

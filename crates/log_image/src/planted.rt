@@ -1,10 +1,8 @@
 ghost use Rattle.std.specs.Prelude.{Ok, None, Some, [], ◌∷◌, ◌≡◌};
-ghost use Rattle.std.specs.FinMap.{get};
 ghost use Rattle.flat_model.specs.Records.{new_dir, new_link};
-ghost use Rattle.logged_volume.specs.Replay.{replay};
 ghost use Rattle.volume_image.specs.Subvolume.{Data};
 ghost use Rattle.log_image.specs.LogRules.{LacksInode, MoreThanExists, NamesClash, OtherKind, PastLimits, RootNamed, StrayItem, WrongExtents, accepted_log, log_of};
-ghost use Rattle.log_image.specs.Planted.{IsRefusedFor, crossed_log, crowded_log, doubled_log, endowed_log, had, hollow_log, large_log, looped_log, misplaced_log, near_in, orphan_log, repeated_log, sound_log, stray_log, turned_log};
+ghost use Rattle.log_image.specs.Planted.{IsRefusedFor, LeaveInode, LeaveNames, crossed_log, crowded_log, doubled_log, endowed_log, had, hollow_log, large_log, looped_log, misplaced_log, name_a, name_d, near_in, orphan_log, repeated_log, sound_log, stray_log, turned_log};
 
 /// Worked values, over a committed subvolume with the file `/a` and the directory `/d`: a log that is accepted, and for
 /// each rule of accepted logs one or more that break it alone and are refused for it.
@@ -36,11 +34,11 @@ pub fn planted_logs_are_refused()
 /// Worked values: what replay of a log that is refused would leave: a name whose inode isn't there, a directory where
 /// a file was, a symlink to nothing, the root directory below another one, two names at one index, and a name twice.
 pub fn refused_logs_would_leave()
-    ensures orphan { (blocks : Data) → (replay had (log_of orphan_log blocks)).names ≡ near_in 256 2 97 257 ∷ near_in 256 3 100 258 ∷ near_in 256 4 98 259 ∷ [] }
-    ensures no_inode { (blocks : Data) → get (replay had (log_of orphan_log blocks)).inodes 259 ≡ None }
-    ensures turned { (blocks : Data) → get (replay had (log_of turned_log blocks)).inodes 257 ≡ Some new_dir }
-    ensures hollow { (blocks : Data) → get (replay had (log_of hollow_log blocks)).inodes 259 ≡ Some (new_link []) }
-    ensures looped { (blocks : Data) → (replay had (log_of looped_log blocks)).names ≡ near_in 256 2 97 257 ∷ near_in 256 3 100 258 ∷ near_in 258 4 114 256 ∷ [] }
-    ensures crossed { (blocks : Data) → (replay had (log_of crossed_log blocks)).names ≡ near_in 256 2 97 257 ∷ near_in 256 2 98 259 ∷ near_in 256 3 100 258 ∷ [] }
-    ensures doubled { (blocks : Data) → (replay had (log_of doubled_log blocks)).names ≡ near_in 256 2 97 257 ∷ near_in 256 3 100 258 ∷ near_in 256 4 97 259 ∷ [] }
+    ensures orphan { LeaveNames orphan_log (name_a ∷ name_d ∷ near_in 256 4 98 259 ∷ []) }
+    ensures no_inode { LeaveInode orphan_log 259 None }
+    ensures turned { LeaveInode turned_log 257 (Some new_dir) }
+    ensures hollow { LeaveInode hollow_log 259 (Some (new_link [])) }
+    ensures looped { LeaveNames looped_log (name_a ∷ name_d ∷ near_in 258 4 114 256 ∷ []) }
+    ensures crossed { LeaveNames crossed_log (name_a ∷ near_in 256 2 98 259 ∷ name_d ∷ []) }
+    ensures doubled { LeaveNames doubled_log (name_a ∷ name_d ∷ near_in 256 4 97 259 ∷ []) }
 {}

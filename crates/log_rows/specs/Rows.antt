@@ -1,6 +1,6 @@
 -- Subvolumes of worked runs: what was committed, what is logged, and what is there when a file or directory is synced. Names have one byte; a new name has
 -- an index above all that the subvolume has had.
-use Rattle.std.specs.Prelude.{ℕ, true, List, [], ◌∷◌}
+use Rattle.std.specs.Prelude.{ℕ, zero, suc, ◌+◌, ◌-◌, true, List, [], ◌∷◌}
 use Rattle.std.specs.FinMap.{empty, from_entries}
 use Rattle.flat_model.specs.Records.{InodeRecord, FileInode, new_file, new_dir}
 use Rattle.flat_model.specs.Names.{FlatName}
@@ -35,11 +35,17 @@ renamed_inodes = (256, new_dir) ∷ (257, file_of 2) ∷ []
 abbrev pub renamed_names : List FlatName
 renamed_names = one_byte 256 2 97 257 ∷ []
 
+abbrev pub renamed : Subvolume
+renamed = with renamed_inodes renamed_names
+
 abbrev pub remade_inodes : List (ℕ × InodeRecord)
 remade_inodes = (256, new_dir) ∷ (257, file_of 2) ∷ (258, file_of 9) ∷ []
 
 abbrev pub remade_names : List FlatName
 remade_names = one_byte 256 3 98 257 ∷ one_byte 256 4 97 258 ∷ []
+
+abbrev pub remade : Subvolume
+remade = with remade_inodes remade_names
 
 -- ---- `/a` and `/b` exchange their names by way of `/t`
 
@@ -49,8 +55,14 @@ pair_inodes = (256, new_dir) ∷ (257, file_of 2) ∷ (258, file_of 9) ∷ []
 abbrev pub pair_names : List FlatName
 pair_names = one_byte 256 2 97 257 ∷ one_byte 256 3 98 258 ∷ []
 
+abbrev pub pair : Subvolume
+pair = with pair_inodes pair_names
+
 abbrev pub crossed_names : List FlatName
 crossed_names = one_byte 256 5 97 258 ∷ one_byte 256 6 98 257 ∷ []
+
+abbrev pub crossed : Subvolume
+crossed = with pair_inodes crossed_names
 
 -- ---- two directories `/a` and `/a/b`: the inner one is moved out, and the outer one into it
 
@@ -60,8 +72,14 @@ nested_inodes = (256, new_dir) ∷ (257, new_dir) ∷ (258, new_dir) ∷ []
 abbrev pub nested_names : List FlatName
 nested_names = one_byte 256 2 97 257 ∷ one_byte 257 3 98 258 ∷ []
 
+abbrev pub nested : Subvolume
+nested = with nested_inodes nested_names
+
 abbrev pub turned_names : List FlatName
 turned_names = one_byte 256 4 98 258 ∷ one_byte 258 5 97 257 ∷ []
+
+abbrev pub turned : Subvolume
+turned = with nested_inodes turned_names
 
 -- ---- `/d/x` is unlinked, then the directory `/d` itself is removed
 
@@ -71,14 +89,23 @@ filled_inodes = (256, new_dir) ∷ (257, new_dir) ∷ (258, new_file) ∷ []
 abbrev pub filled_names : List FlatName
 filled_names = one_byte 256 2 100 257 ∷ one_byte 257 3 120 258 ∷ []
 
+abbrev pub filled : Subvolume
+filled = with filled_inodes filled_names
+
 abbrev pub emptied_inodes : List (ℕ × InodeRecord)
 emptied_inodes = (256, new_dir) ∷ (257, new_dir) ∷ []
 
 abbrev pub emptied_names : List FlatName
 emptied_names = one_byte 256 2 100 257 ∷ []
 
+abbrev pub emptied : Subvolume
+emptied = with emptied_inodes emptied_names
+
 abbrev pub bare_inodes : List (ℕ × InodeRecord)
 bare_inodes = (256, new_dir) ∷ []
+
+abbrev pub bare : Subvolume
+bare = with bare_inodes []
 
 -- ---- `/g/c` is moved to `/q/c`, the directory `/g` removed and a file `/g` made
 
@@ -88,83 +115,49 @@ left_inodes = (256, new_dir) ∷ (257, new_dir) ∷ (258, new_dir) ∷ (259, new
 abbrev pub left_names : List FlatName
 left_names = one_byte 256 2 113 257 ∷ one_byte 256 3 103 258 ∷ one_byte 258 4 99 259 ∷ []
 
+abbrev pub left : Subvolume
+left = with left_inodes left_names
+
 abbrev pub replaced_inodes : List (ℕ × InodeRecord)
 replaced_inodes = (256, new_dir) ∷ (257, new_dir) ∷ (259, new_file) ∷ (260, new_file) ∷ []
 
 abbrev pub replaced_names : List FlatName
 replaced_names = one_byte 256 2 113 257 ∷ one_byte 256 6 103 260 ∷ one_byte 257 5 99 259 ∷ []
 
--- ---- eleven files, whose names are the bytes from 49 on, are renamed each to the next name, the last one first, and another file gets the first name
+abbrev pub replaced : Subvolume
+replaced = with replaced_inodes replaced_names
 
-abbrev pub eleven_inodes : List (ℕ × InodeRecord)
-eleven_inodes = (256, new_dir) ∷ (257, new_file) ∷ (258, new_file) ∷ (259, new_file) ∷ (260, new_file) ∷ (261, new_file) ∷ (262, new_file) ∷ (263, new_file) ∷ (264, new_file) ∷ (265, new_file) ∷ (266, new_file) ∷ (267, new_file) ∷ []
+-- ---- files whose names are the bytes from 49 on are renamed each to the next name, the last one first, and another file gets the first name
 
-abbrev pub eleven_names : List FlatName
-eleven_names =
-    one_byte 256 2 49 257
-    ∷ one_byte 256 3 50 258
-    ∷ one_byte 256 4 51 259
-    ∷ one_byte 256 5 52 260
-    ∷ one_byte 256 6 53 261
-    ∷ one_byte 256 7 54 262
-    ∷ one_byte 256 8 55 263
-    ∷ one_byte 256 9 56 264
-    ∷ one_byte 256 10 57 265
-    ∷ one_byte 256 11 58 266
-    ∷ one_byte 256 12 59 267 ∷ []
+-- so many files from this number on
+abbrev pub files : ℕ → ℕ → List (ℕ × InodeRecord)
+files ino zero = []
+files ino (suc count) = (ino, new_file) ∷ files (ino + 1) count
 
-abbrev pub eleven_shifted_inodes : List (ℕ × InodeRecord)
-eleven_shifted_inodes = (256, new_dir) ∷ (257, new_file) ∷ (258, new_file) ∷ (259, new_file) ∷ (260, new_file) ∷ (261, new_file) ∷ (262, new_file) ∷ (263, new_file) ∷ (264, new_file) ∷ (265, new_file) ∷ (266, new_file) ∷ (267, new_file) ∷ (268, new_file) ∷ []
+-- so many names at rising indexes, of rising bytes and inodes
+abbrev pub rising_names : ℕ → ℕ → ℕ → ℕ → List FlatName
+rising_names index byte ino zero = []
+rising_names index byte ino (suc count) = one_byte 256 index byte ino ∷ rising_names (index + 1) (byte + 1) (ino + 1) count
 
-abbrev pub eleven_shifted_names : List FlatName
-eleven_shifted_names =
-    one_byte 256 13 60 267
-    ∷ one_byte 256 14 59 266
-    ∷ one_byte 256 15 58 265
-    ∷ one_byte 256 16 57 264
-    ∷ one_byte 256 17 56 263
-    ∷ one_byte 256 18 55 262
-    ∷ one_byte 256 19 54 261
-    ∷ one_byte 256 20 53 260
-    ∷ one_byte 256 21 52 259
-    ∷ one_byte 256 22 51 258
-    ∷ one_byte 256 23 50 257
-    ∷ one_byte 256 24 49 268 ∷ []
+-- so many names at rising indexes, of falling bytes and inodes, and then another one
+abbrev pub falling_names : ℕ → ℕ → ℕ → ℕ → ℕ → List FlatName
+falling_names index byte ino other zero = one_byte 256 index byte other ∷ []
+falling_names index byte ino other (suc count) = one_byte 256 index byte ino ∷ falling_names (index + 1) (byte - 1) (ino - 1) other count
 
--- ---- and with ten
+abbrev pub row_inodes : ℕ → List (ℕ × InodeRecord)
+row_inodes count = (256, new_dir) ∷ files 257 count
 
-abbrev pub ten_inodes : List (ℕ × InodeRecord)
-ten_inodes = (256, new_dir) ∷ (257, new_file) ∷ (258, new_file) ∷ (259, new_file) ∷ (260, new_file) ∷ (261, new_file) ∷ (262, new_file) ∷ (263, new_file) ∷ (264, new_file) ∷ (265, new_file) ∷ (266, new_file) ∷ []
+abbrev pub row_names : ℕ → List FlatName
+row_names count = rising_names 2 49 257 count
 
-abbrev pub ten_names : List FlatName
-ten_names =
-    one_byte 256 2 49 257
-    ∷ one_byte 256 3 50 258
-    ∷ one_byte 256 4 51 259
-    ∷ one_byte 256 5 52 260
-    ∷ one_byte 256 6 53 261
-    ∷ one_byte 256 7 54 262
-    ∷ one_byte 256 8 55 263
-    ∷ one_byte 256 9 56 264
-    ∷ one_byte 256 10 57 265
-    ∷ one_byte 256 11 58 266 ∷ []
+abbrev pub shifted_names : ℕ → List FlatName
+shifted_names count = falling_names (count + 2) (count + 49) (count + 256) (count + 257) count
 
-abbrev pub ten_shifted_inodes : List (ℕ × InodeRecord)
-ten_shifted_inodes = (256, new_dir) ∷ (257, new_file) ∷ (258, new_file) ∷ (259, new_file) ∷ (260, new_file) ∷ (261, new_file) ∷ (262, new_file) ∷ (263, new_file) ∷ (264, new_file) ∷ (265, new_file) ∷ (266, new_file) ∷ (267, new_file) ∷ []
+abbrev pub row : ℕ → Subvolume
+row count = with (row_inodes count) (row_names count)
 
-abbrev pub ten_shifted_names : List FlatName
-ten_shifted_names =
-    one_byte 256 12 59 266
-    ∷ one_byte 256 13 58 265
-    ∷ one_byte 256 14 57 264
-    ∷ one_byte 256 15 56 263
-    ∷ one_byte 256 16 55 262
-    ∷ one_byte 256 17 54 261
-    ∷ one_byte 256 18 53 260
-    ∷ one_byte 256 19 52 259
-    ∷ one_byte 256 20 51 258
-    ∷ one_byte 256 21 50 257
-    ∷ one_byte 256 22 49 267 ∷ []
+abbrev pub shifted : ℕ → Subvolume
+shifted count = with (row_inodes (count + 1)) (shifted_names count)
 
 -- ---- `/a` is unlinked, and another `/a` made
 
@@ -174,6 +167,9 @@ again_inodes = (256, new_dir) ∷ (258, new_file) ∷ []
 abbrev pub again_names : List FlatName
 again_names = one_byte 256 3 97 258 ∷ []
 
+abbrev pub again : Subvolume
+again = with again_inodes again_names
+
 -- ---- `/y/p` is moved to `/p`, and then `/y`, which has the file f, to `/p/q/y`
 
 abbrev pub deep_inodes : List (ℕ × InodeRecord)
@@ -182,8 +178,14 @@ deep_inodes = (256, new_dir) ∷ (257, new_dir) ∷ (258, new_dir) ∷ (259, new
 abbrev pub deep_names : List FlatName
 deep_names = one_byte 256 2 121 257 ∷ one_byte 257 3 112 258 ∷ one_byte 257 5 102 260 ∷ one_byte 258 4 113 259 ∷ []
 
+abbrev pub deep : Subvolume
+deep = with deep_inodes deep_names
+
 abbrev pub moved_names : List FlatName
 moved_names = one_byte 256 6 112 258 ∷ one_byte 257 5 102 260 ∷ one_byte 258 4 113 259 ∷ one_byte 259 7 121 257 ∷ []
+
+abbrev pub moved : Subvolume
+moved = with deep_inodes moved_names
 
 -- ---- `/b`, once `/a`, has another size
 
@@ -193,6 +195,9 @@ resized_inodes = (256, new_dir) ∷ (257, file_of 9) ∷ []
 abbrev pub resized_names : List FlatName
 resized_names = one_byte 256 3 98 257 ∷ []
 
+abbrev pub resized : Subvolume
+resized = with resized_inodes resized_names
+
 -- ---- `/a` of 4096 bytes is synced, then cut to 5 bytes and renamed to `/c`
 
 abbrev pub cut_inodes : List (ℕ × InodeRecord)
@@ -201,8 +206,14 @@ cut_inodes = (256, new_dir) ∷ (257, file_of 5) ∷ []
 abbrev pub grown_inodes : List (ℕ × InodeRecord)
 grown_inodes = (256, new_dir) ∷ (257, file_of 4096) ∷ []
 
+abbrev pub grown : Subvolume
+grown = with grown_inodes renamed_names
+
 abbrev pub cut_names : List FlatName
 cut_names = one_byte 256 3 99 257 ∷ []
+
+abbrev pub cut : Subvolume
+cut = with cut_inodes cut_names
 
 -- what the first fsync wrote: the file whole, with its name
 abbrev pub grown_whole : WholeInode

@@ -14,13 +14,15 @@ use Rattle.logged_volume.specs.Written.{holes_of, is_gone, written_ranges, writt
 
 -- a whole inode with this record, where C has the other, with each block that it has ("EXTENT_DATA")
 abbrev pub whole_of : Option InodeRecord → InodeRecord → WholeInode
-whole_of was (FileInode file) = WholeFile (record { attributes = file.attributes; size = file.size; blocks = file.blocks; holes = holes_of (blocks_of was) file })
+whole_of was (FileInode file) =
+    WholeFile (record { attributes = file.attributes; size = file.size; blocks = file.blocks; holes = holes_of (blocks_of was) file })
 whole_of was (DirInode dir) = WholeDir dir
 whole_of was (LinkInode link) = WholeLink link
 
 -- the target whole, another inode as the log had it unless it is gone
 abbrev pub whole_after : Subvolume → Subvolume → ℕ → Bool → Option WholeInode → ℕ → Option WholeInode
-whole_after committed current target gone had ino = cond (nat_eq ino target) (option_map (whole_of (get committed.inodes target)) (get current.inodes target)) (cond gone None had)
+whole_after committed current target gone had ino =
+    cond (nat_eq ino target) (option_map (whole_of (get committed.inodes target)) (get current.inodes target)) (cond gone None had)
 
 -- the list with each of its elements once
 abbrev pub each_once : {X : Type 0} → (X → X → Bool) → List X → List X
