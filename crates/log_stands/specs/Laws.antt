@@ -16,7 +16,10 @@ StandsForOne = (image : Image) (one two : Volume) (near far : List ℕ) → Stan
 
 -- without a log it stands as an image without a log does
 abbrev pub UnloggedStands : Type 0
-UnloggedStands = (image : Image) (volume : Volume) (reach : List ℕ) (stands : StandsByLog image volume reach) → stands.super.log_root ≡ 0 → StandsBy image volume reach
+UnloggedStands =
+    (image : Image) (volume : Volume) (reach : List ℕ) (stands : StandsByLog image volume reach)
+    → stands.super.log_root ≡ 0
+    → StandsBy image volume reach
 
 abbrev pub StandsUnlogged : Type 0
 StandsUnlogged = (image : Image) (volume : Volume) (reach : List ℕ) → StandsBy image volume reach → StandsByLog image volume reach

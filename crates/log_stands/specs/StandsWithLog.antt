@@ -143,7 +143,8 @@ log_mount_need tree_blocks items = 2 * tree_blocks + 9 * items + 180
 
 -- The image has logs beside what its superblock commits to: their trees, items and data, and the volume is what replay leaves. No block has two uses: tree
 -- blocks are apart from one another and from data, and after replay no two blocks of files stand at one address.
-pub record IsLogged (image : Image) (super : SuperValue) (committed : Volume) (near : List ℕ) (is : IsCommitted image super committed near) (volume : Volume) (reach : List ℕ) : Type 0 where
+pub record IsLogged (image : Image) (super : SuperValue) (committed : Volume) (near : List ℕ) (is : IsCommitted image super committed near)
+    (volume : Volume) (reach : List ℕ) : Type 0 where
   pub trees : List TreeAt
   pub are_trees : AreTreesAt image super (subvolume_ids (length is.roots)) is.roots trees
   -- the log root tree, and each log
@@ -161,7 +162,9 @@ pub record IsLogged (image : Image) (super : SuperValue) (committed : Volume) (n
   pub data_allowed : All (IsAllowed super.blocks) (logs_data logs)
   pub no_tree_block : (at : ℕ) → Contains (logs_data logs) at → Contains (is.root_reach ++ trees_reach trees ++ root_reach ++ logs_reach logs) at → ⊥
   pub data_once : (one two : Place) (at : ℕ)
-      → IsPlaceAfter (subvolume_ids (length is.roots)) trees logs volume one at → IsPlaceAfter (subvolume_ids (length is.roots)) trees logs volume two at → one ≡ two
+      → IsPlaceAfter (subvolume_ids (length is.roots)) trees logs volume one at
+      → IsPlaceAfter (subvolume_ids (length is.roots)) trees logs volume two at
+      → one ≡ two
   -- all that is reached, and room for replay
   pub reached : reach ≡ near ++ root_reach ++ logs_reach logs ++ fresh_data near logs
   pub room : log_mount_need (length is.root_reach + length (trees_reach trees)) (counted_items logs) ≤ free_of super.blocks (length reach)
