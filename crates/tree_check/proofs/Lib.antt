@@ -1,0 +1,3 @@
+pub mod Places
+pub mod ItemSteps
+pub mod RunSteps
