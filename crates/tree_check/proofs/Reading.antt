@@ -1,7 +1,7 @@
 -- Data blocks read into the table, one after another, and their first fault.
 use Rattle.std.proofs.Common.{◌≡◌, ◌≢◌, ℕ, true, false, List, [], ◌∷◌, ◌++◌, length, Contains, Option, Result, Ok, Err, refl, sym, ap, subst, ◌∙◌, arith, inl, inr, append_assoc, append-nil}
-use Rattle.std.specs.Prelude.{All}
-use Rattle.std.proofs.lemmas.List.Elements.{Contains-append_left, Contains-append_right, Contains-append_cases}
+use Rattle.std.specs.Prelude.{All, IfErr, OnOk}
+use Rattle.std.proofs.lemmas.List.Elements.{All-weaker, Contains-append_left, Contains-append_right, Contains-append_cases}
 use Rattle.blk_base.specs.Address.{is_allowed}
 use Rattle.blk_base.specs.Bytes.{Image}
 use Rattle.block_table.specs.declared.state.SlotState.TheVariants.{Free}
@@ -76,6 +76,10 @@ read_one seen old new at bytes allowed free load told has = record {
       ∙ ap (λ (blocks : ℕ). blocks_checked blocks now rest) (sym load.size);
 }
 
+-- what is known of the disk is the same later
+pub read_so : (seen later : Option Image) (old new : Table) (addresses : List ℕ) → later ≡ seen → AreRead later old new addresses → AreRead seen old new addresses
+read_so seen later old new addresses same read = subst (λ (s : Option Image). AreRead s old new addresses) same read
+
 -- ---- the first fault
 
 -- what a check answers whatever was reached before is its fault
@@ -120,3 +124,16 @@ answer_err table addresses (Twice at) h = λ reached taken. ap (blocks_checked (
 answer_err table addresses (Incoherent ino) h = λ reached taken. ap (blocks_checked (length table.slots) reached) (sym (append-nil addresses)) ∙ h reached [] taken
 answer_err table addresses Disk h = tt
 answer_err table addresses OutOfMemory h = tt
+
+pub answer_is : (seen : Option Image) (old new : Table) (addresses : List ℕ) (result : Result (Unit {0}) TreeFault) → OnOk result (AreRead seen old new addresses) → IfErr result (IsDataFault old addresses) → IsDataAnswer old addresses result
+answer_is seen old new addresses (Ok done) read fails = answer_ok seen old new addresses read
+answer_is seen old new addresses (Err fault) read fails = answer_err old addresses fault fails
+
+-- ---- the tree
+
+-- data blocks that were read stand where the tree has no block
+pub reads_beside : (old new : Table) (tree : Tree) (addresses : List ℕ) → IsLoad true old new addresses → IsTree old tree → AreAlike old new (tree_reach old tree)
+reads_beside old new tree addresses load tree_is = All-weaker (IsTaken old) (λ (at : ℕ). block_at new at ≡ block_at old at) (λ at taken. load.others at (λ c. taken.taken (load.fresh at c))) (tree_reach old tree) (reach_taken tree.level old true tree.root.0 tree_is.shape)
+
+pub tree_kept : (old new : Table) (tree : Tree) (addresses : List ℕ) → IsLoad true old new addresses → IsTree old tree → (tree_items new tree ≡ tree_items old tree) × (tree_reach new tree ≡ tree_reach old tree) × IsTree new tree
+tree_kept old new tree addresses load tree_is = let kept = tree_alike old new tree (reads_beside old new tree addresses load tree_is) in (kept.0, kept.1, kept.2 tree_is)

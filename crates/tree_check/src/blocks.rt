@@ -1,6 +1,5 @@
 //! The data blocks of a tree, read into the table.
-ghost use Rattle.std.specs.Prelude.{◌≡◌, ◌≤◌, ◌∷◌, [], true, length, Err, IfErr, OnOk};
-ghost use Rattle.blk_base.specs.Address.{IsAllowed};
+ghost use Rattle.std.specs.Prelude.{◌≡◌, ◌≤◌, ◌<◌, ◌+◌, ◌^◌, ◌∷◌, [], true, length, Err, IfErr, OnOk};
 ghost use Rattle.blk_base.specs.Causes.{HasRisen};
 ghost use Rattle.disk_model.specs.Disk.{IfTold, known};
 ghost use Rattle.tree_load.specs.Loaded.{HasBytes, IsLoad};
@@ -9,8 +8,8 @@ ghost use Rattle.tree_check.specs.Blocks.{AreRead, IsDataAnswer, IsDataFault, ru
 
 use crate::fault::TreeFault;
 use crate::runs::{Run, add_tree};
-use blk_base::Addr;
 use blk_base::format::BLOCK_SIZE;
+use blk_base::{Addr, is_allowed};
 use block_table::{BlockTable, SlotState, Tree};
 use disk_model::Disk;
 use std::alloc::Global;
@@ -25,7 +24,7 @@ fn read_data<D: Disk>(
 ) -> Result<(), TreeFault>
     requires { length table.old.slots ≤ D.count disk.old }
     ensures ok { OnOk result (AreRead (known (D.seen disk.old) (D.lost disk.old)) table.old table.new (at.0 ∷ [])) }
-    ensures allowed { OnOk result (IsAllowed (length table.old.slots) at.0) }
+    ensures below_end { OnOk result (at.0 + 4096 < 2 ^ 64) }
     ensures fault { IfErr result (IsDataFault table.old (at.0 ∷ [])) }
     ensures disk_fault { (result ≡ Err TreeFault.Disk) → HasRisen (D.faults disk.old) (D.faults disk.new) }
     ensures size { D.count disk.new ≡ D.count disk.old }
@@ -34,7 +33,8 @@ fn read_data<D: Disk>(
     ensures told { D.told disk.new ≡ D.told disk.old }
     ensures counted { D.faults disk.old ≤ D.faults disk.new }
 {
-    if !table.is_allowed(at) {
+    let blocks = table.blocks();
+    if !is_allowed(blocks, at) {
         return Err(TreeFault::Outside(at));
     }
     if table.state(at) != SlotState::Free {
