@@ -4,3 +4,6 @@ pub mod RunSteps
 pub mod Checking
 pub mod Reading
 pub mod Marking
+pub mod Passing
+pub mod Apart
+pub mod Fresh
