@@ -178,7 +178,7 @@ apart_to one items two rise right c = elim (decide one two) [
       let below = offset_rises one two same (above_head one items two rise c) in
       let there : Contains (one ∷ items) (extent one.0.objectid one.0.offset one.1) = subst (Contains (one ∷ items)) (is_extent one same.kind) (head_in one items) in
       let behind : Contains (one ∷ items) (extent one.0.objectid two.0.offset two.1) =
-          subst (Contains (one ∷ items)) (is_extent two same.same_kind ∙ ap (λ (ino : ℕ). extent ino two.0.offset two.1) same.file) (tail_in one two items c) in
+      subst (Contains (one ∷ items)) (is_extent two same.same_kind ∙ ap (λ (ino : ℕ). extent ino two.0.offset two.1) same.file) (tail_in one two items c) in
       let ends = right.apart one.0.objectid one.0.offset two.0.offset one.1 two.1 there behind below in
       below_is one two same ∙ le-ltb two.0.offset (end_at one) (subst (λ (i : Item). end_at i ≤ two.0.offset) (sym (is_extent one same.kind)) ends)
 ]
@@ -197,9 +197,10 @@ apart_to one items two rise right c = elim (decide one two) [
 
 right_to_behind : (one : Item) (items : List Item) → ItemsRise (one ∷ items) → AreRight (one ∷ items) → AllPass (end_of one) items
 right_to_behind one [] rise right = tt
-right_to_behind one (item ∷ items) rise right =
-    (none_to (item_fault item.0 item.1) (is_below_end (end_of one) item.0) (item_faultless item.0 item.1 (right.spelled item.0 item.1 (tail_in one item (item ∷ items) (head_in item items)))) (apart_to one (item ∷ items) item rise right (head_in item items)),
-    right_to_behind item items (rise_tail one (item ∷ items) rise) (right_tail one (item ∷ items) right))
+right_to_behind one (item ∷ items) rise right = (
+  none_to (item_fault item.0 item.1) (is_below_end (end_of one) item.0) (item_faultless item.0 item.1 (right.spelled item.0 item.1 (tail_in one item (item ∷ items) (head_in item items)))) (apart_to one (item ∷ items) item rise right (head_in item items)),
+  right_to_behind item items (rise_tail one (item ∷ items) rise) (right_tail one (item ∷ items) right),
+)
 
 right_to : (items : List Item) → ItemsRise items → AreRight items → AllPass None items
 right_to [] rise right = tt

@@ -64,9 +64,10 @@ leaves_from table end (at ∷ leaves) after h =
     let there = then_from (leaf_checked (record { 0 = at }) end (leaf_items table at)) (λ mid. leaves_checked table mid leaves) after h in
     let here = leaf_from (record { 0 = at }) end (leaf_items table at) there.0 there.1 in
     let later = leaves_from table there.0 leaves after there.2 in
-    let rest = flat_map (leaf_items table) leaves in
-    (pass_append end (leaf_items table at) rest here.0 (subst (λ (e : Option FileEnd). AllPass e rest) (sym here.1) later.0),
-    last_append end (leaf_items table at) rest ∙ ap (λ (e : Option FileEnd). last_end e rest) here.1 ∙ later.1)
+    let rest = flat_map (leaf_items table) leaves in (
+      pass_append end (leaf_items table at) rest here.0 (subst (λ (e : Option FileEnd). AllPass e rest) (sym here.1) later.0),
+      last_append end (leaf_items table at) rest ∙ ap (λ (e : Option FileEnd). last_end e rest) here.1 ∙ later.1,
+    )
 
 leaves_to : (table : Table) (end : Option FileEnd) (leaves : List ℕ) → AllPass end (flat_map (leaf_items table) leaves) → leaves_checked table end leaves ≡ Ok (last_end end (flat_map (leaf_items table) leaves))
 leaves_to table end [] h = refl

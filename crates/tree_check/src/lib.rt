@@ -9,8 +9,8 @@
 mod blocks;
 mod fault;
 mod item;
-mod leaves;
 pub mod laws;
+mod leaves;
 mod marks;
 mod runs;
 #[cfg(test)]
