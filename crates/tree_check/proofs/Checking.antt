@@ -1,7 +1,6 @@
 -- The check of data blocks, one block and one run after another.
-use Rattle.std.proofs.Common.{◌≡◌, ◌≢◌, ◌≤◌, ◌<◌, ◌+◌, ◌-◌, ◌*◌, ℕ, zero, suc, Bool, true, false, List, [], ◌∷◌, ◌++◌, length, take, drop, slice_get, get_or, append-nil, Contains, Some, Result, Ok, Err, refl, sym, ap, ◌∙◌, arith, inl, inr}
+use Rattle.std.proofs.Common.{◌≡◌, ◌≤◌, ◌<◌, ◌+◌, ◌-◌, ◌*◌, ℕ, zero, suc, Bool, true, false, List, [], ◌∷◌, ◌++◌, length, take, drop, slice_get, get_or, append-nil, Some, Err, refl, sym, ap, ◌∙◌, arith, inl, inr}
 use Rattle.std.specs.Prelude.{◌||◌, ◌==◌}
-use Rattle.std.specs.List.{flat_map}
 use Rattle.std.proofs.lemmas.Bool.{cases_Bool}
 use Rattle.std.proofs.lemmas.List.Concat.{flat_map-append}
 use Rattle.std.proofs.lemmas.Option.{slice_get-get_or}
@@ -13,7 +12,6 @@ use Rattle.tree_range.proofs.Cuts.{cut_at}
 use Rattle.volume_image.specs.Subvolume.{run_addresses}
 use Rattle.volume_image.specs.Tree.{was_reached}
 use Rattle.volume_image.proofs.Reaches.{not_reached, not_in, was_reached-in, was_reached-true}
-use Rattle.tree_check.specs.declared.fault.TreeFault.{TreeFault}
 use Rattle.tree_check.specs.declared.fault.TreeFault.TheVariants.{Outside, Twice}
 use Rattle.tree_check.specs.declared.runs.Run.{Run}
 use Rattle.tree_check.specs.Blocks.{blocks_checked, run_of, runs_of}

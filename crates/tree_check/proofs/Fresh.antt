@@ -1,11 +1,9 @@
 -- Data blocks pass their check exactly where each has a place of its own.
-use Rattle.std.proofs.Common.{◌≡◌, ◌↔◌, ℕ, Bool, true, false, List, [], ◌∷◌, Contains, Result, Ok, refl, sym, subst, ◌∙◌, inl, inr}
-use Rattle.std.specs.Prelude.{All}
+use Rattle.std.proofs.Common.{◌≡◌, ◌↔◌, ℕ, List, [], ◌∷◌, Contains, Ok, refl, sym, subst, ◌∙◌, inl, inr}
 use Rattle.std.proofs.lemmas.List.Elements.{All-cons, All-head, All-nil, All-tail}
-use Rattle.blk_base.specs.Address.{IsAllowed, is_allowed}
+use Rattle.blk_base.specs.Address.{IsAllowed}
 use Rattle.format_laws.specs.Checks.{found_none, passed}
 use Rattle.format_laws.specs.Superblock.{IsAllowed-from_test, is_allowed-true}
-use Rattle.volume_image.specs.Tree.{was_reached}
 use Rattle.volume_image.proofs.Lists.{in_cons, in_nothing}
 use Rattle.volume_image.proofs.Reaches.{head_in, not_in, not_reached, tail_in}
 use Rattle.tree_check.specs.Blocks.{AreFresh, blocks_checked}

@@ -1,6 +1,6 @@
 -- Marks of data blocks, set one after another, and the first fault.
-use Rattle.std.proofs.Common.{◌≡◌, ◌≢◌, ◌<◌, ◌/◌, ◌%◌, ◌*◌, ◌+◌, ℕ, zero, suc, Bool, true, false, List, [], ◌∷◌, ◌++◌, length, take, replicate, refl, sym, ap, subst, ◌≤◌, ◌∙◌, arith, inl, inr, append_assoc, append-nil, get_or-set_other, get_or-set_same, Result, Ok, Err}
-use Rattle.std.specs.Prelude.{◌||◌, ◌==◌, slice_set, slice_index_or, IfErr, OnOk}
+use Rattle.std.proofs.Common.{◌≡◌, ◌≢◌, ◌<◌, ◌/◌, ℕ, zero, suc, Bool, true, false, List, [], ◌∷◌, ◌++◌, length, take, replicate, refl, sym, ap, subst, ◌≤◌, ◌∙◌, arith, inl, inr, append_assoc, append-nil, get_or-set_other, get_or-set_same, Result, Ok, Err}
+use Rattle.std.specs.Prelude.{◌||◌, slice_set, slice_index_or, IfErr, OnOk}
 use Rattle.std.proofs.lemmas.Bool.{cases_eq, eq-eqb, ne_eqb}
 use Rattle.blk_base.specs.Address.{IsAllowed, is_allowed}
 use Rattle.block_table.specs.declared.tree.Tree.{Tree}
@@ -10,7 +10,7 @@ use Rattle.volume_image.specs.Tree.{was_reached}
 use Rattle.tree_check.specs.declared.fault.TreeFault.{TreeFault}
 use Rattle.tree_check.specs.declared.fault.TreeFault.TheVariants.{Item, Outside, Twice, Incoherent, Disk, OutOfMemory}
 use Rattle.tree_check.specs.declared.runs.Run.{Run}
-use Rattle.tree_check.specs.Blocks.{AreMarked, AreMore, IsMarkFault, IsMarked, IsOnceAnswer, blocks_checked, runs_of, trees_data}
+use Rattle.tree_check.specs.Blocks.{AreMarked, AreMore, IsMarkFault, IsOnceAnswer, blocks_checked, runs_of, trees_data}
 use Rattle.tree_check.proofs.Checking.{is_fresh, is_outside, is_twice}
 
 pub mark_none : (blocks : ℕ) (marks : List Bool) → AreMore blocks marks marks []

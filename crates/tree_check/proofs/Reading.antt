@@ -1,16 +1,15 @@
 -- Data blocks read into the table, one after another, and their first fault.
-use Rattle.std.proofs.Common.{◌≡◌, ◌≢◌, ℕ, true, false, List, [], ◌∷◌, ◌++◌, length, Contains, Option, Result, Ok, Err, refl, sym, ap, subst, ◌∙◌, arith, inl, inr, append_assoc, append-nil}
-use Rattle.std.specs.Prelude.{All, IfErr, OnOk}
+use Rattle.std.proofs.Common.{◌≡◌, ◌≢◌, ℕ, true, false, List, [], ◌∷◌, ◌++◌, length, Contains, Option, Result, Ok, Err, sym, ap, subst, ◌∙◌, inl, inr, append_assoc, append-nil}
+use Rattle.std.specs.Prelude.{IfErr, OnOk}
 use Rattle.std.proofs.lemmas.List.Elements.{All-weaker, Contains-append_left, Contains-append_right, Contains-append_cases}
 use Rattle.blk_base.specs.Address.{is_allowed}
 use Rattle.blk_base.specs.Bytes.{Image}
 use Rattle.block_table.specs.declared.state.SlotState.TheVariants.{Free}
 use Rattle.block_table.specs.declared.tree.Tree.{Tree}
-use Rattle.block_table.specs.Slot.{BlockSlot}
 use Rattle.block_table.specs.Table.{Table}
 use Rattle.block_table.specs.TreeIn.{IsTaken, block_at}
 use Rattle.disk_model.specs.Disk.{IfTold}
-use Rattle.tree_load.specs.Loaded.{AreTaken, HasBytes, IsLoad, taken_of}
+use Rattle.tree_load.specs.Loaded.{AreTaken, IsLoad, taken_of}
 use Rattle.tree_load.proofs.Loading.{told_always, told_both, told_from}
 use Rattle.tree_load.proofs.Tables.{bytes_joined, bytes_of_one, load_more, load_none, taken_more}
 use Rattle.tree_load.proofs.Taken.{taken_are}
@@ -23,7 +22,7 @@ use Rattle.volume_image.proofs.Reaches.{head_in, tail_in, not_in, was_reached-in
 use Rattle.tree_check.specs.declared.fault.TreeFault.{TreeFault}
 use Rattle.tree_check.specs.declared.fault.TreeFault.TheVariants.{Item, Outside, Twice, Incoherent, Disk, OutOfMemory}
 use Rattle.tree_check.specs.Blocks.{AreRead, IsDataAnswer, IsDataFault, blocks_checked}
-use Rattle.tree_check.proofs.Checking.{is_fresh, is_outside, is_twice, same_reached, same_taken}
+use Rattle.tree_check.proofs.Checking.{is_fresh, same_reached, same_taken}
 
 -- ---- blocks that were read
 

@@ -12,7 +12,7 @@ use Rattle.tree_range.specs.Shape.{tree_items}
 use Rattle.volume_image.specs.Subvolume.{data_addresses, run_addresses}
 use Rattle.volume_image.specs.Tree.{AreApart, NoneTwice, was_reached}
 use Rattle.tree_check.specs.declared.fault.TreeFault.{TreeFault}
-use Rattle.tree_check.specs.declared.fault.TreeFault.TheVariants.{Item, Outside, Twice, Incoherent, Disk, OutOfMemory}
+use Rattle.tree_check.specs.declared.fault.TreeFault.TheVariants.{Outside, Twice, Disk, OutOfMemory}
 use Rattle.tree_check.specs.declared.runs.Run.{Run}
 
 -- ---- in order, after those at the addresses reached before

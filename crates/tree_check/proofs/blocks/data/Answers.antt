@@ -1,6 +1,4 @@
 use Rattle.std.proofs.Common.{◌≡◌, ◌++◌, ℕ, List, sym, ap, subst, ◌∙◌}
-use Rattle.std.specs.Prelude.{OnOk}
-use Rattle.block_table.specs.Table.{Table}
 use Rattle.disk_model.specs.Disk.{known}
 use Rattle.tree_load.proofs.Loading.{at_ok}
 use Rattle.tree_check.specs.declared.runs.Run.{Run}

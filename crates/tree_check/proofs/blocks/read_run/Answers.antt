@@ -1,9 +1,7 @@
-use Rattle.std.proofs.Common.{◌+◌, ◌*◌, ◌-◌, ◌≤◌, ◌<◌, ◌/◌, ◌^◌, ◌∷◌, [], ◌++◌, ℕ, List, length, refl, sym, subst, ◌∙◌, arith}
+use Rattle.std.proofs.Common.{◌+◌, ◌-◌, ◌∷◌, [], refl, sym, subst, ◌∙◌, arith}
 use Rattle.std.proofs.lemmas.Result.{err_from_is_err_and}
-use Rattle.blk_base.specs.Bytes.{Image}
 use Rattle.disk_model.specs.Disk.{known}
 use Rattle.disk_model.proofs.CrashLaws.{known_same}
-use Rattle.std.proofs.Common.{Option}
 use Rattle.volume_image.specs.Subvolume.{run_addresses}
 use Rattle.tree_check.specs.Blocks.{AreRead, run_of}
 use Rattle.tree_check.proofs.Checking.{run_cut, run_next}

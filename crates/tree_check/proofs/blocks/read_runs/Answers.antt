@@ -3,7 +3,7 @@ use Rattle.std.proofs.lemmas.Result.{err_from_is_err_and}
 use Rattle.disk_model.specs.Disk.{known}
 use Rattle.disk_model.proofs.CrashLaws.{known_same}
 use Rattle.tree_check.specs.Blocks.{AreRead, run_of, runs_of}
-use Rattle.tree_check.proofs.Checking.{run_at, runs_all, runs_cut, runs_next}
+use Rattle.tree_check.proofs.Checking.{run_at, runs_cut, runs_next}
 use Rattle.tree_check.proofs.Reading.{fault_within, read_more, read_none, read_so}
 use Rattle.tree_check.proofs.blocks.read_runs.Goals as goal
 

@@ -1,4 +1,4 @@
-use Rattle.std.proofs.Common.{◌≤◌, ◌-◌, ◌<◌, false, length, sym, ◌∙◌, arith}
+use Rattle.std.proofs.Common.{◌≤◌, ◌-◌, false, length, sym, ◌∙◌, arith}
 use Rattle.std.proofs.lemmas.Result.{err_from_is_err_and}
 use Rattle.tree_range.proofs.Times.{child_shape}
 use Rattle.tree_check.proofs.ItemSteps.{child_fails, child_passes, children_begin, children_end, leaf_alone}

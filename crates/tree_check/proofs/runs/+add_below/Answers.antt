@@ -1,4 +1,4 @@
-use Rattle.std.proofs.Common.{◌≤◌, ◌-◌, ◌<◌, false, length, arith}
+use Rattle.std.proofs.Common.{◌≤◌, ◌-◌, false, length, arith}
 use Rattle.tree_range.specs.Shape.{items_below}
 use Rattle.tree_range.proofs.Times.{child_shape}
 use Rattle.volume_image.specs.Subvolume.{data_addresses}
