@@ -42,7 +42,7 @@ pass_in end (first ∷ items) item h c = elim (in_cons first item items c) [
 -- ---- the end of an extent
 
 -- the number of the first byte behind an extent
-abbrev end_at : Item → ℕ
+abbrev pub end_at : Item → ℕ
 end_at item = item.0.offset + extent_len item.0 item.1
 
 -- two extents of one file
@@ -51,10 +51,10 @@ record AreOfOneFile (one two : Item) : Type 0 where
   same_kind : two.0.kind ≡ extent_data
   file : two.0.objectid ≡ one.0.objectid
 
-end_is : (item : Item) → item.0.kind ≡ extent_data → end_of item ≡ Some (record { file = item.0.objectid; end = end_at item })
+pub end_is : (item : Item) → item.0.kind ≡ extent_data → end_of item ≡ Some (record { file = item.0.objectid; end = end_at item })
 end_is item kind = ap (λ (b : Bool). if b then Some (record { file = item.0.objectid; end = end_at item }) else None) (eq-eqb item.0.kind extent_data kind)
 
-no_end : (item : Item) (key : Key) → (item.0.kind == extent_data) ≡ false → is_below_end (end_of item) key ≡ false
+pub no_end : (item : Item) (key : Key) → (item.0.kind == extent_data) ≡ false → is_below_end (end_of item) key ≡ false
 no_end item key other = ap (λ (b : Bool). is_below_end (if b then Some (record { file = item.0.objectid; end = end_at item }) else None) key) other
 
 below_is : (one two : Item) → AreOfOneFile one two → is_below_end (end_of one) two.0 ≡ nat_lt two.0.offset (end_at one)
@@ -131,7 +131,7 @@ ends_before one (next ∷ items) two rise pass c same = elim (in_cons next two i
 ]
 
 -- an extent item of a file by its offset
-abbrev extent : ℕ → ℕ → List ℕ → Item
+abbrev pub extent : ℕ → ℕ → List ℕ → Item
 extent ino offset bytes = (make_key ino extent_data offset, bytes)
 
 of_one_file : (ino one two : ℕ) (first second : List ℕ) → AreOfOneFile (extent ino one first) (extent ino two second)
@@ -153,7 +153,7 @@ apart_from (item ∷ items) end ino one two first second rise pass c d below = e
   ]
 ]
 
-right_from : (items : List Item) → ItemsRise items → AreBytes items → AllPass None items → AreRight items
+pub right_from : (items : List Item) → ItemsRise items → AreBytes items → AllPass None items → AreRight items
 right_from items rise are pass = record {
   spelled = λ key bytes c. item_spelled key bytes (are key bytes c) (pass_in None items (key, bytes) pass c);
   apart = λ ino one two first second c d below. apart_from items None ino one two first second rise pass c d below;
@@ -168,7 +168,7 @@ right_tail item items right = record {
 }
 
 -- an extent is its file's item at its offset
-is_extent : (item : Item) → item.0.kind ≡ extent_data → item ≡ extent item.0.objectid item.0.offset item.1
+pub is_extent : (item : Item) → item.0.kind ≡ extent_data → item ≡ extent item.0.objectid item.0.offset item.1
 is_extent item kind = ap (λ (k : ℕ). (record { objectid = item.0.objectid; kind = k; offset = item.0.offset }, item.1)) kind
 
 apart_to : (one : Item) (items : List Item) (two : Item) → ItemsRise (one ∷ items) → AreRight (one ∷ items) → Contains items two → is_below_end (end_of one) two.0 ≡ false

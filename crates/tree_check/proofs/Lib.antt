@@ -7,3 +7,4 @@ pub mod Marking
 pub mod Passing
 pub mod Apart
 pub mod Fresh
+pub mod First

@@ -23,7 +23,7 @@ abbrev pub last_end : Option FileEnd → List Item → Option FileEnd
 last_end end [] = end
 last_end end (item ∷ items) = last_end (end_of item) items
 
-pass_append : (end : Option FileEnd) (near far : List Item) → AllPass end near → AllPass (last_end end near) far → AllPass end (near ++ far)
+pub pass_append : (end : Option FileEnd) (near far : List Item) → AllPass end near → AllPass (last_end end near) far → AllPass end (near ++ far)
 pass_append end [] far one two = two
 pass_append end (item ∷ near) far one two = (one.0, pass_append (end_of item) near far one.1 two)
 
@@ -31,7 +31,7 @@ pass_parts : (end : Option FileEnd) (near far : List Item) → AllPass end (near
 pass_parts end [] far h = (tt, h)
 pass_parts end (item ∷ near) far h = let later = pass_parts (end_of item) near far h.1 in ((h.0, later.0), later.1)
 
-last_append : (end : Option FileEnd) (near far : List Item) → last_end end (near ++ far) ≡ last_end (last_end end near) far
+pub last_append : (end : Option FileEnd) (near far : List Item) → last_end end (near ++ far) ≡ last_end (last_end end near) far
 last_append end [] far = refl
 last_append end (item ∷ near) far = last_append (end_of item) near far
 
@@ -41,7 +41,7 @@ unless_ok : {A : Type 0} (at : Addr) (key : Key) (fault : Option ItemFault) (res
 unless_ok at key None rest x h = (refl, h)
 unless_ok at key (Some fault) rest x h = absurd cc
 
-leaf_from : (at : Addr) (end : Option FileEnd) (items : List Item) (after : Option FileEnd) → leaf_checked at end items ≡ Ok after → AllPass end items × (last_end end items ≡ after)
+pub leaf_from : (at : Addr) (end : Option FileEnd) (items : List Item) (after : Option FileEnd) → leaf_checked at end items ≡ Ok after → AllPass end items × (last_end end items ≡ after)
 leaf_from at end [] after h = (tt, cc)
 leaf_from at end (item ∷ items) after h =
     let here = unless_ok at item.0 (fault_behind end item) (leaf_checked at (end_of item) items) after h in

@@ -1,5 +1,5 @@
 -- The first fault of a tree's items, by rising keys, and when all items are right.
-use Rattle.std.specs.Prelude.{◌≤◌, ◌<◌, ◌+◌, ◌==◌, ◌&&◌, ℕ, zero, suc, Bool, true, false, List, [], ◌∷◌, nat_lt, Contains, Option, Some, None, Result, Ok, Err, if◌then◌else◌}
+use Rattle.std.specs.Prelude.{◌≡◌, ◌⊎◌, ◌++◌, ◌≤◌, ◌<◌, ◌+◌, ◌==◌, ◌&&◌, ℕ, zero, suc, Bool, true, false, List, [], ◌∷◌, nat_lt, Contains, Option, Some, None, Result, Ok, Err, if◌then◌else◌}
 use Rattle.std.specs.List.{flat_map}
 use Rattle.blk_base.specs.declared.fault.ItemFault.{ItemFault}
 use Rattle.blk_base.specs.declared.fault.ItemFault.TheVariants.{Overlap}
@@ -11,7 +11,7 @@ use Rattle.blk_base.specs.Keys.{extent_data}
 use Rattle.blk_base.specs.Leaf.{Item}
 use Rattle.block_table.specs.declared.tree.Tree.{Tree}
 use Rattle.block_table.specs.Table.{Table}
-use Rattle.tree_range.specs.Shape.{leaf_items, node_pointers}
+use Rattle.tree_range.specs.Shape.{leaf_items, node_pointers, tree_items}
 use Rattle.volume_image.specs.Subvolume.{extent_len, make_key}
 use Rattle.tree_check.specs.declared.fault.TreeFault.{TreeFault}
 use Rattle.tree_check.specs.declared.item.FileEnd.{FileEnd}
@@ -76,3 +76,31 @@ pub record AreRight (items : List Item) : Type 0 where
   pub spelled : (key : Key) (bytes : List ℕ) → Contains items (key, bytes) → IsSpelled key bytes
   pub apart : (ino one two : ℕ) (first second : List ℕ) → Contains items (make_key ino extent_data one, first) → Contains items (make_key ino extent_data two, second) → one < two
       → one + extent_len (make_key ino extent_data one) first ≤ two
+
+-- ---- which fault is the first
+
+-- an extent in front of an item of the same file covers the item's first byte
+pub record IsOverlapped (before : List Item) (item : Item) : Type 0 where
+  pub kind : item.0.kind ≡ extent_data
+  pub offset : ℕ
+  pub bytes : List ℕ
+  pub there : Contains before (make_key item.0.objectid extent_data offset, bytes)
+  pub covers : item.0.offset < offset + extent_len (make_key item.0.objectid extent_data offset) bytes
+
+-- the fault is one by the grammar of the key's type; or there is none, and the item begins below the end of an extent in front of it
+abbrev pub IsFaultOf : List Item → Item → ItemFault → Type 0
+IsFaultOf before item why = (item_fault item.0 item.1 ≡ Some why) ⊎ ((item_fault item.0 item.1 ≡ None) × (why ≡ Overlap) × IsOverlapped before item)
+
+-- The fault is that of a tree's first item that isn't right, and names a leaf of the tree that has the item.
+pub record IsFirstFault (table : Table) (tree : Tree) (fault : TreeFault) : Type 0 where
+  pub at : Addr
+  pub item : Item
+  pub why : ItemFault
+  pub is : fault ≡ TreeFault.Item at item.0 why
+  pub before : List Item
+  pub after : List Item
+  pub split : tree_items table tree ≡ before ++ item ∷ after
+  pub right : AreRight before
+  pub faulty : IsFaultOf before item why
+  pub leaf : Contains (leaves_below tree.level table tree.root.0) at.0
+  pub held : Contains (leaf_items table at.0) item
