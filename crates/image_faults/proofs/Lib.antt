@@ -1,0 +1,9 @@
+pub mod Lists
+pub mod Rising
+pub mod Readings
+pub mod Entries
+pub mod Asking
+pub mod OfNames
+pub mod Held
+pub mod OfInodes
+pub mod OfLines
