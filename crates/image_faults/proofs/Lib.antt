@@ -7,3 +7,8 @@ pub mod OfNames
 pub mod Held
 pub mod OfInodes
 pub mod OfLines
+pub mod Once
+pub mod FromNames
+pub mod FromItems
+pub mod FromExtents
+pub mod FromLines

@@ -30,6 +30,7 @@ use Rattle.image_faults.proofs.Lists.{once_permuted, once_map, once_filter, once
 use Rattle.image_faults.proofs.Readings.{EntryItem, entry_in, entry_from}
 use Rattle.image_faults.proofs.Entries.{GoTogether, same_lengths, AreSpelled}
 use Rattle.image_faults.proofs.Asking.{is_near_at, is_far_at, own_ref, own_asked, in_own, ref_asked, far_asked, at_index, asked_index, with_hash, asked_hash, with_attribute}
+use Rattle.image_faults.proofs.Once.{near_once, far_once}
 use Rattle.image_faults.proofs.Held.{asked_from, asked_to}
 use Rattle.image_faults.proofs.OfNames.{refs_read, extrefs_read, names_are_said}
 use Rattle.image_faults.proofs.OfInodes.{inodes_are_said}
@@ -38,7 +39,7 @@ some_same : {X : Type 0} (x y : X) → Some x ≡ Some y → x ≡ y
 some_same x y e = cc
 
 -- where a list of a map's values has something, the map has something
-attributes_of_some : (o : Option InodeRecord) (pair : List ℕ × List ℕ) → Contains (attributes_there o) pair → (inode : InodeRecord) × (o ≡ Some inode)
+pub attributes_of_some : (o : Option InodeRecord) (pair : List ℕ × List ℕ) → Contains (attributes_there o) pair → (inode : InodeRecord) × (o ≡ Some inode)
 attributes_of_some None pair c = absurd (in_nothing pair c)
 attributes_of_some (Some inode) pair c = (inode, refl)
 
@@ -245,58 +246,13 @@ module _ (items : List Item) (blocks : Data) (sub : Subvolume) (rise : ItemsRise
 
   -- ---- its own rules
 
-  near_once : (ino dir : ℕ) → StandOnce (refs_asked sub ino dir)
-  near_once ino dir = once_append (cond (nat_eq ino 256 && nat_eq dir 256) (own_ref ∷ []) []) (map ref_of (filter (is_near_at ino dir) sub.names)) (own_once (nat_eq ino 256 && nat_eq dir 256))
-      (once_map ref_of (filter (is_near_at ino dir) sub.names) same_name (once_filter (is_near_at ino dir) sub.names (once_names sub.names whole.in_order))) apart
-    where
-      own_once : (b : Bool) → StandOnce (cond b (own_ref ∷ []) [])
-      own_once true = one_once own_ref
-      own_once false = tt
-
-      parts : (n : FlatName) → Contains (filter (is_near_at ino dir) sub.names) n → Contains sub.names n × (n.near ≡ true) × (n.ino ≡ ino) × (n.dir ≡ dir)
-      parts n c =
-          let kept = Rattle.volume_image.proofs.Members.in_filter (is_near_at ino dir) sub.names n c in
-          let one = and_parts n.near _ kept.1 in
-          let two = and_parts (nat_eq n.ino ino) _ one.1 in
-          (kept.0, one.0, eqb-true n.ino ino two.0, eqb-true n.dir dir two.1)
-
-      same_name : (n m : FlatName) → Contains (filter (is_near_at ino dir) sub.names) n → Contains (filter (is_near_at ino dir) sub.names) m → ref_of n ≡ ref_of m → n ≡ m
-      same_name n m c d e =
-          let p = parts n c in
-          let q = parts m d in
-          λ i. record { dir = (p.3 ∙ sym q.3) i; index = ap (λ (r : RefValue). r.index) e i; bytes = ap (λ (r : RefValue). r.name) e i; ino = (p.2 ∙ sym q.2) i; near = (p.1 ∙ sym q.1) i }
-
-      apart : (r : RefValue) → Contains (cond (nat_eq ino 256 && nat_eq dir 256) (own_ref ∷ []) []) r → Contains (map ref_of (filter (is_near_at ino dir) sub.names)) r → ⊥
-      apart r own named =
-          let is = in_own (nat_eq ino 256 && nat_eq dir 256) r own in
-          let root = and_parts _ _ is.0 in
-          let found = Rattle.volume_image.proofs.Members.in_map ref_of (filter (is_near_at ino dir) sub.names) r named in
-          let p = parts found.0 found.1 in
-          whole.root_has_no_name found.0 p.0 (p.2 ∙ eqb-true ino 256 root.0)
-
-  far_once : (ino hash : ℕ) → StandOnce (extrefs_asked sub ino hash)
-  far_once ino hash = once_map extref_of (filter (is_far_at ino hash) sub.names) same_name (once_filter (is_far_at ino hash) sub.names (once_names sub.names whole.in_order))
-    where
-      parts : (n : FlatName) → Contains (filter (is_far_at ino hash) sub.names) n → (n.near ≡ false) × (n.ino ≡ ino)
-      parts n c =
-          let kept = Rattle.volume_image.proofs.Members.in_filter (is_far_at ino hash) sub.names n c in
-          let one = and_parts _ _ kept.1 in
-          let two = and_parts (nat_eq n.ino ino) _ one.1 in
-          (Rattle.std.proofs.lemmas.Bool.not-true _ one.0, eqb-true n.ino ino two.0)
-
-      same_name : (n m : FlatName) → Contains (filter (is_far_at ino hash) sub.names) n → Contains (filter (is_far_at ino hash) sub.names) m → extref_of n ≡ extref_of m → n ≡ m
-      same_name n m c d e =
-          let p = parts n c in
-          let q = parts m d in
-          λ i. record { dir = ap (λ (r : ExtRefValue). r.parent) e i; index = ap (λ (r : ExtRefValue). r.index) e i; bytes = ap (λ (r : ExtRefValue). r.name) e i; ino = (p.1 ∙ sym q.1) i; near = (p.0 ∙ sym q.0) i }
-
   refs_once : (key : Key) (bytes : List ℕ) → Contains items (key, bytes) → HasRefsOnce key bytes
   refs_once key bytes there = record {
     near = λ k.
         subst (λ (n : ℕ). StandOnce (read_list (refs_of (make_key key.objectid n key.offset) bytes))) (sym k)
-        (once_permuted (refs_asked sub key.objectid key.offset) _ (near_once key.objectid key.offset) (refs_read items blocks sub are key.objectid key.offset bytes (Rattle.image_faults.proofs.Readings.as_made items key bytes inode_ref k there)));
+        (once_permuted (refs_asked sub key.objectid key.offset) _ (near_once sub whole.in_order whole.root_has_no_name key.objectid key.offset) (refs_read items blocks sub are key.objectid key.offset bytes (Rattle.image_faults.proofs.Readings.as_made items key bytes inode_ref k there)));
     far = λ k.
-        once_permuted (extrefs_asked sub key.objectid key.offset) _ (far_once key.objectid key.offset) (extrefs_read items blocks sub are key.objectid key.offset bytes (Rattle.image_faults.proofs.Readings.as_made items key bytes inode_extref k there));
+        once_permuted (extrefs_asked sub key.objectid key.offset) _ (far_once sub whole.in_order key.objectid key.offset) (extrefs_read items blocks sub are key.objectid key.offset bytes (Rattle.image_faults.proofs.Readings.as_made items key bytes inode_extref k there));
   }
 
   rules_kept : (ino : ℕ) → KeepsRules items sub ino
