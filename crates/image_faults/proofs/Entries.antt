@@ -18,7 +18,7 @@ use Rattle.volume_image.proofs.Reaches.{head_in, tail_in}
 use Rattle.volume_image.proofs.Members.{in_filter, filter_in, in_map, map_in}
 use Rattle.image_faults.specs.Said.{PlacedEntry, read_list, is_item_of, entries_in, entries_at}
 use Rattle.image_faults.specs.Faulty.{StandOnce}
-use Rattle.image_faults.proofs.Lists.{in_flat_map, permuted, once_map, once_filter, once_names, once_short, once_append, one_member, get_at}
+use Rattle.image_faults.specs.Lists.{in_flat_map, permuted, once_map, once_filter, once_names, once_short, once_append, one_member, get_at}
 use Rattle.image_faults.proofs.Rising.{key_once, head_below, rise_tail, not_below_itself}
 use Rattle.image_faults.proofs.Readings.{EntryItem, entry_from}
 

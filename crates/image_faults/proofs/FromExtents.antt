@@ -16,7 +16,7 @@ use Rattle.volume_image.proofs.Lists.{in_nothing}
 use Rattle.volume_image.proofs.Extents.{extent_len_regular, run_is_reached}
 use Rattle.image_faults.specs.Said.{is_item_of, said_blocks, said_target, target_in, inline_content, said_record, said_sub}
 use Rattle.image_faults.specs.Faulty.{AreReadable, HasData, is_extent_for, HasNoFault}
-use Rattle.image_faults.proofs.Lists.{taken, given}
+use Rattle.image_faults.specs.Lists.{taken, given}
 use Rattle.image_faults.proofs.Rising.{key_once}
 use Rattle.image_faults.proofs.Readings.{file_blocks_list, BlockItem, block_in, block_from, target_from, InodeItem, inode_from}
 use Rattle.image_faults.proofs.OfInodes.{flat_one}

@@ -25,7 +25,7 @@ use Rattle.volume_image.proofs.Members.{in_map, map_in, get_in, in_get}
 use Rattle.volume_image.proofs.Extents.{extent_len_regular, regular_is_read, run_is_reached}
 use Rattle.image_faults.specs.Said.{PlacedEntry, read_list, is_item_of, is_own_ref, near_name, far_name, entries_at, attribute_of, said_attributes, said_blocks, said_target, target_in, inline_content, said_record, said_names, said_sub}
 use Rattle.image_faults.specs.Faulty.{AreReadable, HasData, StandOnce, is_extent_for, HasNoFault}
-use Rattle.image_faults.proofs.Lists.{permuted, once_map, once_filter, once_entries, once_map_entries, taken, given}
+use Rattle.image_faults.specs.Lists.{permuted, once_map, once_filter, once_entries, once_map_entries, taken, given}
 use Rattle.image_faults.proofs.Rising.{key_once}
 use Rattle.image_faults.proofs.Readings.{NearItem, FarItem, near_said, far_said, said_from, said_in_order, entry_in, entry_from, file_blocks_list, BlockItem, block_in, block_from, InodeItem, inode_from}
 use Rattle.image_faults.proofs.Entries.{entries_read, entry_of_name}

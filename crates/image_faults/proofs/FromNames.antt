@@ -25,7 +25,7 @@ use Rattle.volume_image.proofs.Reaches.{head_in, tail_in}
 use Rattle.volume_image.proofs.Members.{in_filter, in_map, map_in, flat_map_in}
 use Rattle.image_faults.specs.Said.{PlacedEntry, read_list, is_own_ref, entries_at, said_record, said_names, said_sub}
 use Rattle.image_faults.specs.Faulty.{AreReadable, StandOnce, IsThere, IsEntryOf, IsRightRef, HasNoFault}
-use Rattle.image_faults.proofs.Lists.{permuted, once_map, once_filter, once_names, once_entries}
+use Rattle.image_faults.specs.Lists.{permuted, once_map, once_filter, once_names, once_entries}
 use Rattle.image_faults.proofs.Rising.{key_once}
 use Rattle.image_faults.proofs.Readings.{NearItem, FarItem, said_from, said_in_order, EntryItem, entry_in, entry_from, inode_from, inode_said}
 use Rattle.image_faults.proofs.Entries.{AreSpelled, GoTogether, entries_read, index_one}

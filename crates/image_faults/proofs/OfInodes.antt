@@ -24,7 +24,7 @@ use Rattle.volume_image.proofs.Members.{not_empty, in_map, map_in, get_in, in_ge
 use Rattle.volume_image.proofs.Extents.{regular_is_read, extent_len_regular}
 use Rattle.volume_image.proofs.Asked.{asked_inode, asked_attributes, asked_extent}
 use Rattle.image_faults.specs.Said.{PlacedEntry, is_item_of, entries_at, attribute_of, said_attributes, said_blocks, said_target, target_in, inline_content, said_record, said_inodes}
-use Rattle.image_faults.proofs.Lists.{gives_map}
+use Rattle.image_faults.specs.Lists.{gives_map}
 use Rattle.image_faults.proofs.Rising.{head_below, rise_tail, not_below_itself}
 use Rattle.image_faults.proofs.Readings.{EntryItem, entry_in, entry_from, file_blocks_list, BlockItem, block_in, block_from, InodeItem, inode_list, inode_listed, list_inode}
 use Rattle.image_faults.proofs.Asking.{with_attribute, asked_attribute}

@@ -26,7 +26,7 @@ use Rattle.volume_image.proofs.Asked.{asked_inode, asked_hashed, asked_indexed}
 use Rattle.volume_image.proofs.OwnKeys.{has_its_key, asked_is_spelled, asked_kind}
 use Rattle.image_faults.specs.Said.{PlacedEntry, read_list, entries_at, said_sub}
 use Rattle.image_faults.specs.Faulty.{StandOnce, IsThere, HasOwnRef, is_extent_for, is_for_kind, HasRightKey, size_by, HasRightNumbers, IsEntryOf, IsRightIndexed, IsRightHashed, IsRightRef, HasRefsOnce, KeepsRules, IsRightInode, HasNoFault}
-use Rattle.image_faults.proofs.Lists.{once_permuted, once_map, once_filter, once_names, once_append, one_once}
+use Rattle.image_faults.specs.Lists.{once_permuted, once_map, once_filter, once_names, once_append, one_once}
 use Rattle.image_faults.proofs.Readings.{EntryItem, entry_in, entry_from}
 use Rattle.image_faults.proofs.Entries.{GoTogether, same_lengths, AreSpelled}
 use Rattle.image_faults.proofs.Asking.{is_near_at, is_far_at, own_ref, own_asked, in_own, ref_asked, far_asked, at_index, asked_index, with_hash, asked_hash, with_attribute}

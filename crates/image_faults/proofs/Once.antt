@@ -7,7 +7,7 @@ use Rattle.flat_model.specs.Volume.{Subvolume}
 use Rattle.volume_image.specs.Subvolume.{refs_asked, extrefs_asked, ref_of, extref_of}
 use Rattle.volume_image.proofs.Members.{in_filter, in_map}
 use Rattle.image_faults.specs.Faulty.{StandOnce}
-use Rattle.image_faults.proofs.Lists.{once_map, once_filter, once_names, once_append, one_once}
+use Rattle.image_faults.specs.Lists.{once_map, once_filter, once_names, once_append, one_once}
 use Rattle.image_faults.proofs.Asking.{is_near_at, is_far_at, own_ref, in_own}
 
 module _ (sub : Subvolume) (set : is_name_set sub.names ≡ true) where

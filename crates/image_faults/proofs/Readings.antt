@@ -20,7 +20,7 @@ use Rattle.volume_image.proofs.Lists.{in_nothing, in_cons}
 use Rattle.volume_image.proofs.Reaches.{head_in}
 use Rattle.volume_image.proofs.Members.{in_filter, filter_in, in_map, map_in, flat_map_in}
 use Rattle.image_faults.specs.Said.{PlacedEntry, read_list, is_own_ref, near_name, far_name, names_in, said_names, is_item_of, entries_in, entries_at, block_there, run_blocks, extent_blocks, blocks_in, inline_content, target_in, said_target, said_record, record_by, inode_in, said_inodes}
-use Rattle.image_faults.proofs.Lists.{in_flat_map, taken, given}
+use Rattle.image_faults.specs.Lists.{in_flat_map, taken, given}
 use Rattle.image_faults.proofs.Rising.{key_once}
 
 -- ---- sets of names

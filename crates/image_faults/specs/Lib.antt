@@ -1,2 +1,6 @@
 pub mod Said
 pub mod Faulty
+pub mod Lists
+pub mod Decisions
+pub mod Ways
+pub mod Decided

@@ -26,7 +26,7 @@ in_flat_map f (x ∷ xs) y c = elim (Contains-append_cases (f x) (flat_map f xs)
 -- ---- one list in another order
 
 -- what stands in a list has a part before it and one behind
-split_at : {X : Type 0} (xs : List X) (x : X) → Contains xs x → (front : List X) × (back : List X) × (xs ≡ front ++ (x ∷ back))
+pub split_at : {X : Type 0} (xs : List X) (x : X) → Contains xs x → (front : List X) × (back : List X) × (xs ≡ front ++ (x ∷ back))
 split_at [] x c = absurd (in_nothing x c)
 split_at (y ∷ xs) x c = elim (in_cons y x xs c) [
   | inl here ↦ ([], xs, ap (λ z. z ∷ xs) here)
@@ -229,7 +229,7 @@ length_middle [] x back = refl
 length_middle (y ∷ front) x back = ap suc (length_middle front x back)
 
 -- elements that stand once, all of them in another list, are no more than that list has
-fewer : {X : Type 0} (xs ys : List X) → StandOnce xs → ((x : X) → Contains xs x → Contains ys x) → length xs ≤ length ys
+pub fewer : {X : Type 0} (xs ys : List X) → StandOnce xs → ((x : X) → Contains xs x → Contains ys x) → length xs ≤ length ys
 fewer [] ys d f = omega arith
 fewer {X} (x ∷ xs) ys d f =
     let parts = split_at ys x (f x (head_in x xs)) in
