@@ -1,15 +1,14 @@
 -- Which names a subvolume asks for under a key, and the root directory's name for itself.
-use Rattle.std.proofs.Common.{◌≡◌, ◌≢◌, ◌≤◌, ◌&&◌, ◌++◌, ◌⊎◌, Bool, true, false, not, cond, ℕ, nat_eq, List, [], ◌∷◌, length, filter, map, Contains, Option, Some, refl, sym, ap, subst, ◌∙◌, arith, inl, inr}
+use Rattle.std.proofs.Common.{◌≡◌, ◌&&◌, ◌⊎◌, Bool, true, false, not, cond, ℕ, nat_eq, List, [], ◌∷◌, filter, map, Contains, refl, sym, inl, inr}
 use Rattle.std.proofs.lemmas.List.Elements.{Contains-append_left, Contains-append_right, Contains-append_cases}
-use Rattle.std.proofs.lemmas.Bool.{not-true, not_from_false, and_parts, and_from, eqb-true, eq-eqb, false_from_ne_true}
+use Rattle.std.proofs.lemmas.Bool.{not-true, not_from_false, and_parts, and_from, eqb-true, eq-eqb}
 use Rattle.std.specs.FinMap.{get}
 use Rattle.blk_base.specs.Crc.{name_hash_of, extref_hash_of}
 use Rattle.blk_base.specs.Keys.{inode_ref}
 use Rattle.blk_base.specs.Entries.{RefValue, ExtRefValue, EntryValue, dots}
 use Rattle.flat_model.specs.Names.{FlatName}
-use Rattle.flat_model.specs.Records.{InodeRecord}
 use Rattle.flat_model.specs.Volume.{Subvolume}
-use Rattle.flat_model.proofs.Ways.{same_bytes_eq, bytes_eq_same}
+use Rattle.flat_model.proofs.Ways.{same_bytes_eq}
 use Rattle.volume_image.specs.Subvolume.{make_key, own_refs, refs_asked, extrefs_asked, indexed_asked, hashed_asked, attributes_asked, attributes_there, attribute_entry, ref_of, extref_of, entry_of}
 use Rattle.volume_image.proofs.Lists.{in_nothing, in_cons}
 use Rattle.volume_image.proofs.Reaches.{head_in}

@@ -1,10 +1,9 @@
 -- Entries of a directory among the items: one at an index, one of a name in an item, and the lengths of their names.
-use Rattle.std.proofs.Common.{◌≡◌, ◌≢◌, ◌<◌, ◌≤◌, ◌⊎◌, ◌++◌, ◌+◌, ℕ, Bool, true, false, cond, List, [], ◌∷◌, length, filter, map, flat_map, fold, sum_by, Contains, IsPermutation, Some, Result, Ok, slice_get, refl, sym, ap, subst, ◌∙◌, arith, inl, inr}
-use Rattle.std.proofs.lemmas.Bool.{and_parts, and_from, eqb-true, eq-eqb, cases_order}
+use Rattle.std.proofs.Common.{◌≡◌, ◌<◌, ◌⊎◌, ◌+◌, ℕ, Bool, true, false, cond, List, [], ◌∷◌, length, filter, map, flat_map, fold, sum_by, Contains, Some, slice_get, refl, sym, ap, subst, ◌∙◌, arith, inl, inr}
+use Rattle.std.proofs.lemmas.Bool.{and_parts, eqb-true, eq-eqb, cases_order}
 use Rattle.std.proofs.lemmas.List.{length-map}
 use Rattle.std.proofs.lemmas.List.Sorted.{sum_by-IsPermutation}
 use Rattle.blk_base.specs.declared.key.Key.{Key}
-use Rattle.blk_base.specs.declared.fault.ItemFault.{ItemFault}
 use Rattle.blk_base.specs.Keys.{KeyBelow, dir_index}
 use Rattle.blk_base.specs.Leaf.{Item}
 use Rattle.blk_base.specs.Entries.{EntryValue, IsEntries, entries_of}
@@ -20,7 +19,7 @@ use Rattle.image_faults.specs.Said.{PlacedEntry, read_list, is_item_of, entries_
 use Rattle.image_faults.specs.Faulty.{StandOnce}
 use Rattle.image_faults.specs.Lists.{in_flat_map, permuted, once_map, once_filter, once_names, once_short, once_append, one_member, get_at}
 use Rattle.image_faults.proofs.Rising.{key_once, head_below, rise_tail, not_below_itself}
-use Rattle.image_faults.proofs.Readings.{EntryItem, entry_from}
+use Rattle.image_faults.proofs.Readings.{entry_from}
 
 -- each item is spelled by the grammar of its type
 abbrev pub AreSpelled : List Item → Type 0
@@ -116,23 +115,23 @@ module _ (items : List Item) (rise : ItemsRise items) (spelled : AreSpelled item
       let g : FlatName → List ℕ = λ n. n.bytes in
       let same = permuted (map f es) (map g ns)
       (once_map f es (λ p q cp cq e.
-          let n = go.there p cp in
-          let m = go.there q cq in
-          let one = go.once n.0 m.0 n.1 m.1 n.2 m.2 (sym n.4 ∙ e ∙ m.4) in
-          let index : p.0 ≡ q.0 = sym n.3 ∙ ap (λ (x : FlatName). x.index) one ∙ m.3 in
-          let entry = index_one dir q.0 p.1 q.1 (subst (λ (k : ℕ). Contains es (k, p.1)) index cp) cq in
-          λ i. (index i, entry i)) (indexed_once dir))
+      let n = go.there p cp in
+      let m = go.there q cq in
+      let one = go.once n.0 m.0 n.1 m.1 n.2 m.2 (sym n.4 ∙ e ∙ m.4) in
+      let index : p.0 ≡ q.0 = sym n.3 ∙ ap (λ (x : FlatName). x.index) one ∙ m.3 in
+      let entry = index_one dir q.0 p.1 q.1 (subst (λ (k : ℕ). Contains es (k, p.1)) index cp) cq in
+      λ i. (index i, entry i)) (indexed_once dir))
       (once_map g ns (λ n m cn cm e.
-          let kn = in_filter (stands_in dir) names n cn in
-          let km = in_filter (stands_in dir) names m cm in
-          go.once n m kn.0 km.0 (eqb-true n.dir dir kn.1) (eqb-true m.dir dir km.1) e) (once_filter (stands_in dir) names (once_names names set)))
+      let kn = in_filter (stands_in dir) names n cn in
+      let km = in_filter (stands_in dir) names m cm in
+      go.once n m kn.0 km.0 (eqb-true n.dir dir kn.1) (eqb-true m.dir dir km.1) e) (once_filter (stands_in dir) names (once_names names set)))
       (λ bytes c.
-          let p = in_map f es bytes c in
-          let n = go.there p.0 p.1 in
-          subst (λ (b : List ℕ). Contains (map g ns) b) (sym n.4 ∙ p.2) (map_in g ns n.0 (filter_in (stands_in dir) names n.0 n.1 (eq-eqb n.0.dir dir n.2))))
+      let p = in_map f es bytes c in
+      let n = go.there p.0 p.1 in
+      subst (λ (b : List ℕ). Contains (map g ns) b) (sym n.4 ∙ p.2) (map_in g ns n.0 (filter_in (stands_in dir) names n.0 n.1 (eq-eqb n.0.dir dir n.2))))
       (λ bytes c.
-          let n = in_map g ns bytes c in
-          let k = in_filter (stands_in dir) names n.0 n.1 in
-          let e = go.back n.0 k.0 (eqb-true n.0.dir dir k.1) in
-          subst (λ (b : List ℕ). Contains (map f es) b) (e.2 ∙ n.2) (map_in f es (n.0.index, e.0) e.1)) in
+      let n = in_map g ns bytes c in
+      let k = in_filter (stands_in dir) names n.0 n.1 in
+      let e = go.back n.0 k.0 (eqb-true n.0.dir dir k.1) in
+      subst (λ (b : List ℕ). Contains (map f es) b) (e.2 ∙ n.2) (map_in f es (n.0.index, e.0) e.1)) in
       sym (sum_of_map length f es) ∙ sym (sum_by-IsPermutation length (map f es) (map g ns) same) ∙ sum_of_map length g ns

@@ -1,5 +1,5 @@
 -- Where no inode is faulty: runs of blocks and targets are those that the said subvolume asks for.
-use Rattle.std.proofs.Common.{◌≡◌, ◌≢◌, ◌≤◌, ◌<◌, ◌+◌, ◌-◌, ◌*◌, ◌/◌, ◌%◌, ◌⊎◌, ◌==◌, ◌&&◌, ℕ, Bool, true, false, cond, nat_cmp, List, [], ◌∷◌, length, Contains, Option, Some, None, Result, Ok, Err, refl, sym, ap, subst, ◌∙◌, arith, inl, inr}
+use Rattle.std.proofs.Common.{◌≡◌, ◌≤◌, ◌<◌, ◌+◌, ◌*◌, ◌/◌, ◌%◌, ◌⊎◌, ℕ, Bool, true, false, cond, List, [], ◌∷◌, length, Contains, Some, Result, Ok, Err, refl, sym, ap, subst, ◌∙◌, arith, inl, inr}
 use Rattle.std.proofs.lemmas.Bool.{cases_order, and_parts, eqb-true, eq-eqb}
 use Rattle.std.specs.Cmp.{nat_cmp_total}
 use Rattle.std.specs.FinMap.{get, nat_cmp-IsAntisymmetric}
@@ -8,17 +8,15 @@ use Rattle.blk_base.specs.declared.fault.ItemFault.{ItemFault}
 use Rattle.blk_base.specs.Keys.{extent_data}
 use Rattle.blk_base.specs.Leaf.{Item}
 use Rattle.blk_base.specs.Extents.{ExtentValue, Inline, Regular, IsExtent, extent_of}
-use Rattle.item_laws.specs.ExtentLaws.{extent_from, extent_to}
-use Rattle.flat_model.specs.Records.{InodeRecord, FileRecord, DirRecord, LinkRecord, FileInode, DirInode, LinkInode}
-use Rattle.flat_model.specs.Volume.{Subvolume}
-use Rattle.volume_image.specs.Subvolume.{Data, HasKey, CoversBlock, IsExtentOf, make_key, extent_len}
-use Rattle.volume_image.proofs.Lists.{in_nothing}
+use Rattle.item_laws.specs.ExtentLaws.{extent_from}
+use Rattle.flat_model.specs.Records.{InodeRecord, FileRecord, LinkRecord, FileInode, DirInode, LinkInode}
+use Rattle.volume_image.specs.Subvolume.{Data, HasKey, CoversBlock, IsExtentOf, make_key}
 use Rattle.volume_image.proofs.Extents.{extent_len_regular, run_is_reached}
-use Rattle.image_faults.specs.Said.{is_item_of, said_blocks, said_target, target_in, inline_content, said_record, said_sub}
+use Rattle.image_faults.specs.Said.{is_item_of, said_blocks, said_target, target_in, inline_content, said_sub}
 use Rattle.image_faults.specs.Faulty.{AreReadable, HasData, is_extent_for, HasNoFault}
 use Rattle.image_faults.specs.Lists.{taken, given}
 use Rattle.image_faults.proofs.Rising.{key_once}
-use Rattle.image_faults.proofs.Readings.{file_blocks_list, BlockItem, block_in, block_from, target_from, InodeItem, inode_from}
+use Rattle.image_faults.proofs.Readings.{file_blocks_list, BlockItem, block_in, block_from, target_from, inode_from}
 use Rattle.image_faults.proofs.OfInodes.{flat_one}
 use Rattle.image_faults.proofs.FromItems.{record_blocks, record_target, for_file, for_link, extent_for}
 

@@ -1,37 +1,33 @@
 -- Where no inode is faulty: refs, attributes, runs of blocks and targets are those that the said subvolume asks for.
-use Rattle.std.proofs.Common.{◌≡◌, ◌≢◌, ◌≤◌, ◌<◌, ◌+◌, ◌-◌, ◌*◌, ◌/◌, ◌%◌, ◌⊎◌, ◌++◌, ◌==◌, ◌||◌, ◌&&◌, ℕ, Bool, true, false, cond, nat_cmp, nat_eq, List, [], ◌∷◌, length, filter, map, Contains, IsPermutation, Option, Some, None, Result, Ok, Err, refl, sym, ap, subst, ◌∙◌, arith, inl, inr}
-use Rattle.std.proofs.lemmas.Bool.{cases_Bool, cases_order, and_parts, eqb-true, eq-eqb}
-use Rattle.std.specs.Cmp.{nat_cmp_total}
+use Rattle.std.proofs.Common.{◌≡◌, ◌⊎◌, ◌==◌, ℕ, Bool, true, false, cond, nat_eq, List, filter, map, Contains, IsPermutation, Option, Some, None, Result, Ok, Err, refl, sym, ap, subst, ◌∙◌, inl, inr}
+use Rattle.std.proofs.lemmas.Bool.{cases_Bool}
 use Rattle.std.specs.Cmp.Lexicographic.{nat_list_cmp_total}
-use Rattle.std.specs.FinMap.{FinMap, get, entries, nat_cmp-IsAntisymmetric}
+use Rattle.std.specs.FinMap.{get}
 use Rattle.blk_base.specs.declared.key.Key.{Key}
 use Rattle.blk_base.specs.declared.fault.ItemFault.{ItemFault}
 use Rattle.blk_base.specs.Crc.{name_hash_of, extref_hash_of}
-use Rattle.blk_base.specs.Keys.{inode_ref, inode_extref, xattr_item, dir_item, dir_index, extent_data}
+use Rattle.blk_base.specs.Keys.{inode_ref, inode_extref, xattr_item, extent_data}
 use Rattle.blk_base.specs.Leaf.{Item}
 use Rattle.blk_base.specs.Items.{InodeValue, file_mode, dir_mode}
-use Rattle.blk_base.specs.Entries.{RefValue, ExtRefValue, EntryValue, IsRefs, IsExtRefs, IsEntries, IsEntryKind, refs_of, extrefs_of, entries_of, attr_entry}
-use Rattle.blk_base.specs.Extents.{ExtentValue, Inline, Regular, Hole, IsExtent, extent_of}
+use Rattle.blk_base.specs.Entries.{RefValue, ExtRefValue, EntryValue, IsRefs, IsExtRefs, IsEntryKind, refs_of, extrefs_of, entries_of}
+use Rattle.blk_base.specs.Extents.{ExtentValue, Inline, Regular, Hole, extent_of}
 use Rattle.blk_base.specs.ItemFaults.{LeadsNowhere}
 use Rattle.item_laws.specs.Refs.{refs_to}
 use Rattle.item_laws.specs.ExtRefs.{extrefs_to}
-use Rattle.item_laws.specs.ExtentLaws.{extent_from, extent_to}
 use Rattle.flat_model.specs.Names.{FlatName}
-use Rattle.flat_model.specs.Records.{Attributes, InodeRecord, FileRecord, DirRecord, LinkRecord, FileInode, DirInode, LinkInode, attributes_of}
+use Rattle.flat_model.specs.Records.{Attributes, InodeRecord, FileRecord, LinkRecord, FileInode, DirInode, LinkInode, attributes_of}
 use Rattle.flat_model.specs.Volume.{Subvolume}
-use Rattle.volume_image.specs.Subvolume.{Data, HasEntries, HasKey, IsExtentOf, RunHolds, make_key, refs_asked, extrefs_asked, attributes_asked, attributes_there, attribute_entry, ref_of, extref_of, without_transid, extent_len, data_addresses}
-use Rattle.volume_image.proofs.Lists.{in_nothing}
+use Rattle.volume_image.specs.Subvolume.{Data, HasEntries, HasKey, make_key, refs_asked, extrefs_asked, attributes_asked, attributes_there, attribute_entry, ref_of, extref_of, without_transid}
 use Rattle.volume_image.proofs.Members.{in_map, map_in, get_in, in_get}
-use Rattle.volume_image.proofs.Extents.{extent_len_regular, regular_is_read, run_is_reached}
-use Rattle.image_faults.specs.Said.{PlacedEntry, read_list, is_item_of, is_own_ref, near_name, far_name, entries_at, attribute_of, said_attributes, said_blocks, said_target, target_in, inline_content, said_record, said_names, said_sub}
-use Rattle.image_faults.specs.Faulty.{AreReadable, HasData, StandOnce, is_extent_for, HasNoFault}
+use Rattle.image_faults.specs.Said.{read_list, is_own_ref, near_name, far_name, entries_at, attribute_of, said_attributes, said_blocks, said_target, said_record, said_sub}
+use Rattle.image_faults.specs.Faulty.{AreReadable, StandOnce, is_extent_for, HasNoFault}
 use Rattle.image_faults.specs.Lists.{permuted, once_map, once_filter, once_entries, once_map_entries, taken, given}
 use Rattle.image_faults.proofs.Rising.{key_once}
-use Rattle.image_faults.proofs.Readings.{NearItem, FarItem, near_said, far_said, said_from, said_in_order, entry_in, entry_from, file_blocks_list, BlockItem, block_in, block_from, InodeItem, inode_from}
+use Rattle.image_faults.proofs.Readings.{FarItem, near_said, far_said, said_from, said_in_order, entry_in, entry_from, InodeItem, inode_from}
 use Rattle.image_faults.proofs.Entries.{entries_read, entry_of_name}
 use Rattle.image_faults.proofs.Asking.{own_ref, own_asked, own_ref_parts, ref_asked, asked_near, far_asked, asked_far, with_attribute, asked_attribute}
 use Rattle.image_faults.proofs.Once.{near_once, far_once}
-use Rattle.image_faults.proofs.OfInodes.{bytes_one, flat_one}
+use Rattle.image_faults.proofs.OfInodes.{bytes_one}
 use Rattle.image_faults.proofs.OfLines.{kind_of_extent}
 use Rattle.image_faults.proofs.FromNames.{all_at, spelled, root_has_no_name, placed_in}
 
@@ -118,10 +114,13 @@ module _ (items : List Item) (blocks : Data) (ok : AreReadable items) (right : (
       let key = make_key ino inode_ref dir in
       let found = (spelled items blocks ok right key bytes there).refs refl in
       let read : read_list (refs_of key bytes) ≡ found.0 = ap read_list (refs_to key bytes found.0 found.1) in
-      let once = subst StandOnce read (((right ino).own.refs_once key bytes there refl).near refl) in
-      (found.0, found.1, permuted found.0 (refs_asked s ino dir) once (near_once s (said_in_order items) (root_has_no_name items blocks ok right) ino dir)
-          (λ r c. forth r (subst (λ (rs : List RefValue). Contains rs r) (sym read) c) (cases_Bool (is_own_ref key r)))
-          (λ r c. subst (λ (rs : List RefValue). Contains rs r) read (back r c)))
+      let once = subst StandOnce read (((right ino).own.refs_once key bytes there refl).near refl) in (
+        found.0,
+        found.1,
+        permuted found.0 (refs_asked s ino dir) once (near_once s (said_in_order items) (root_has_no_name items blocks ok right) ino dir)
+            (λ r c. forth r (subst (λ (rs : List RefValue). Contains rs r) (sym read) c) (cases_Bool (is_own_ref key r)))
+            (λ r c. subst (λ (rs : List RefValue). Contains rs r) read (back r c)),
+      )
     where
       forth : (r : RefValue) → Contains (read_list (refs_of (make_key ino inode_ref dir) bytes)) r → (is_own_ref (make_key ino inode_ref dir) r ≡ true) ⊎ (is_own_ref (make_key ino inode_ref dir) r ≡ false) → Contains (refs_asked s ino dir) r
       forth r c (inl own) =
@@ -171,19 +170,22 @@ module _ (items : List Item) (blocks : Data) (ok : AreReadable items) (right : (
       let found = (spelled items blocks ok right key bytes there).extrefs refl in
       let read : read_list (extrefs_of bytes) ≡ found.0 = ap read_list (extrefs_to bytes found.0 found.1) in
       let once = subst StandOnce read (((right ino).own.refs_once key bytes there refl).far refl) in
-      let content = ((right ino).keys key bytes there refl).content.extrefs refl found.0 found.1 in
-      (found.0, found.1, permuted found.0 (extrefs_asked s ino hash) once (far_once s (said_in_order items) ino hash)
-          (λ r c.
-              let name = far_name key r in
-              let hashed = all_at (λ (ref : ExtRefValue). extref_hash_of ref.parent ref.name ≡ hash) found.0 r content c in
-              subst (λ (h : ℕ). Contains (extrefs_asked s ino h) r) hashed
-              (asked_far s name (far_said items ino hash bytes r there (subst (λ (rs : List ExtRefValue). Contains rs r) (sym read) c)) refl))
-          (λ r c.
-              let name = far_asked s ino hash r c in
-              let item = far_item name.0 name.1 name.2 in
-              let key' : make_key name.0.ino inode_extref item.hash ≡ key = λ i. record { objectid = name.3 i; kind = inode_extref; offset = (sym (far_hash name.0 item) ∙ name.4) i } in
-              let same = key_once items key item.bytes bytes ok.rise (subst (λ (k : Key). Contains items (k, item.bytes)) key' item.there) there in
-              subst (λ (x : ExtRefValue). Contains found.0 x) name.5 (subst (λ (rs : List ExtRefValue). Contains rs (extref_of name.0)) read (subst (λ (b : List ℕ). Contains (read_list (extrefs_of b)) (extref_of name.0)) same item.ref))))
+      let content = ((right ino).keys key bytes there refl).content.extrefs refl found.0 found.1 in (
+        found.0,
+        found.1,
+        permuted found.0 (extrefs_asked s ino hash) once (far_once s (said_in_order items) ino hash)
+            (λ r c.
+            let name = far_name key r in
+            let hashed = all_at (λ (ref : ExtRefValue). extref_hash_of ref.parent ref.name ≡ hash) found.0 r content c in
+            subst (λ (h : ℕ). Contains (extrefs_asked s ino h) r) hashed
+            (asked_far s name (far_said items ino hash bytes r there (subst (λ (rs : List ExtRefValue). Contains rs r) (sym read) c)) refl))
+            (λ r c.
+            let name = far_asked s ino hash r c in
+            let item = far_item name.0 name.1 name.2 in
+            let key' : make_key name.0.ino inode_extref item.hash ≡ key = λ i. record { objectid = name.3 i; kind = inode_extref; offset = (sym (far_hash name.0 item) ∙ name.4) i } in
+            let same = key_once items key item.bytes bytes ok.rise (subst (λ (k : Key). Contains items (k, item.bytes)) key' item.there) there in
+            subst (λ (x : ExtRefValue). Contains found.0 x) name.5 (subst (λ (rs : List ExtRefValue). Contains rs (extref_of name.0)) read (subst (λ (b : List ℕ). Contains (read_list (extrefs_of b)) (extref_of name.0)) same item.ref))),
+      )
 
   pub extrefs_there : (ino hash : ℕ) → (r : ExtRefValue) → Contains (extrefs_asked s ino hash) r → HasKey items (make_key ino inode_extref hash)
   extrefs_there ino hash r c =
@@ -211,14 +213,14 @@ module _ (items : List Item) (blocks : Data) (ok : AreReadable items) (right : (
   unfolding said_attributes
   attribute_said ino hash bytes e there c = given nat_list_cmp_total bytes_one (map attribute_of (entries_at items xattr_item ino)) e.name e.value
       (λ w d.
-          let p = in_map attribute_of (entries_at items xattr_item ino) (e.name, w) d in
-          let item = entry_from items xattr_item ino p.0 p.1 in
-          let name : p.0.1.name ≡ e.name = ap (λ (z : List ℕ × List ℕ). z.0) p.2 in
-          let place : p.0.0 ≡ hash = sym (attribute_hash ino p.0.0 item.bytes p.0.1 item.there item.entry).0 ∙ ap name_hash_of name ∙ (attribute_hash ino hash bytes e there c).0 in
-          let inside = placed_in items blocks ok right xattr_item ino hash bytes p.0.1 (subst (λ (h : ℕ). Contains (entries_at items xattr_item ino) (h, p.0.1)) place p.1) there in
-          let found = entries_read items ok.rise (spelled items blocks ok right) xattr_item ino hash bytes (inr (inr refl)) there in
-          let one = entry_of_name xattr_item bytes found.0 p.0.1 e found.1 (subst (λ (es : List EntryValue). Contains es p.0.1) found.2 inside) (subst (λ (es : List EntryValue). Contains es e) found.2 c) name in
-          sym (ap (λ (z : List ℕ × List ℕ). z.1) p.2) ∙ ap (λ (x : EntryValue). x.value) one)
+      let p = in_map attribute_of (entries_at items xattr_item ino) (e.name, w) d in
+      let item = entry_from items xattr_item ino p.0 p.1 in
+      let name : p.0.1.name ≡ e.name = ap (λ (z : List ℕ × List ℕ). z.0) p.2 in
+      let place : p.0.0 ≡ hash = sym (attribute_hash ino p.0.0 item.bytes p.0.1 item.there item.entry).0 ∙ ap name_hash_of name ∙ (attribute_hash ino hash bytes e there c).0 in
+      let inside = placed_in items blocks ok right xattr_item ino hash bytes p.0.1 (subst (λ (h : ℕ). Contains (entries_at items xattr_item ino) (h, p.0.1)) place p.1) there in
+      let found = entries_read items ok.rise (spelled items blocks ok right) xattr_item ino hash bytes (inr (inr refl)) there in
+      let one = entry_of_name xattr_item bytes found.0 p.0.1 e found.1 (subst (λ (es : List EntryValue). Contains es p.0.1) found.2 inside) (subst (λ (es : List EntryValue). Contains es e) found.2 c) name in
+      sym (ap (λ (z : List ℕ × List ℕ). z.1) p.2) ∙ ap (λ (x : EntryValue). x.value) one)
       (map_in attribute_of (entries_at items xattr_item ino) (hash, e) (entry_in items xattr_item ino hash bytes e there c))
 
   -- the item of an attribute that an inode has
@@ -261,22 +263,22 @@ module _ (items : List Item) (blocks : Data) (ok : AreReadable items) (right : (
               (λ p q c d e. (λ i. (ap (λ (x : EntryValue). x.name) e i, ap (λ (x : EntryValue). x.value) e i)))
               (once_filter (λ attribute. nat_eq (name_hash_of attribute.0) hash) (attributes_there (get s.inodes ino)) (attributes_once (get s.inodes ino))))
               (λ a c.
-                  let e = in_map without_transid found.0 a c in
-                  let read = subst (λ (es : List EntryValue). Contains es e.0) (sym found.2) e.1 in
-                  let facts = attribute_hash ino hash bytes e.0 has read in
-                  let pair : List ℕ × List ℕ = (e.0.name, e.0.value) in
-                  let asked = asked_attribute s ino pair (attribute_to pair (attribute_said ino hash bytes e.0 has read)) in
-                  subst (λ (x : EntryValue). Contains (attributes_asked s ino hash) x) (attribute_is e.0 facts.1 facts.2 ∙ e.2)
-                  (subst (λ (h : ℕ). Contains (attributes_asked s ino h) (attribute_entry pair)) facts.0 asked))
+              let e = in_map without_transid found.0 a c in
+              let read = subst (λ (es : List EntryValue). Contains es e.0) (sym found.2) e.1 in
+              let facts = attribute_hash ino hash bytes e.0 has read in
+              let pair : List ℕ × List ℕ = (e.0.name, e.0.value) in
+              let asked = asked_attribute s ino pair (attribute_to pair (attribute_said ino hash bytes e.0 has read)) in
+              subst (λ (x : EntryValue). Contains (attributes_asked s ino hash) x) (attribute_is e.0 facts.1 facts.2 ∙ e.2)
+              (subst (λ (h : ℕ). Contains (attributes_asked s ino h) (attribute_entry pair)) facts.0 asked))
               (λ a c.
-                  let pair = with_attribute s ino hash a c in
-                  let item = attribute_item ino pair.0 (attribute_from pair.0 pair.1) in
-                  let same = key_once items (make_key ino xattr_item hash) item.0 bytes ok.rise (subst (λ (h : ℕ). Contains items (make_key ino xattr_item h, item.0)) pair.2 item.1) has in
-                  let e = item.2 in
-                  let read = subst (λ (b : List ℕ). Contains (read_list (entries_of xattr_item b)) e) same item.3 in
-                  let facts = attribute_hash ino hash bytes e has read in
-                  let says : without_transid e ≡ a = sym (attribute_is e facts.1 facts.2) ∙ (λ i. attribute_entry (item.4 i, item.5 i)) ∙ pair.3 in
-                  subst (λ (x : EntryValue). Contains (map without_transid found.0) x) says (map_in without_transid found.0 e (subst (λ (es : List EntryValue). Contains es e) found.2 read)));
+              let pair = with_attribute s ino hash a c in
+              let item = attribute_item ino pair.0 (attribute_from pair.0 pair.1) in
+              let same = key_once items (make_key ino xattr_item hash) item.0 bytes ok.rise (subst (λ (h : ℕ). Contains items (make_key ino xattr_item h, item.0)) pair.2 item.1) has in
+              let e = item.2 in
+              let read = subst (λ (b : List ℕ). Contains (read_list (entries_of xattr_item b)) e) same item.3 in
+              let facts = attribute_hash ino hash bytes e has read in
+              let says : without_transid e ≡ a = sym (attribute_is e facts.1 facts.2) ∙ (λ i. attribute_entry (item.4 i, item.5 i)) ∙ pair.3 in
+              subst (λ (x : EntryValue). Contains (map without_transid found.0) x) says (map_in without_transid found.0 e (subst (λ (es : List EntryValue). Contains es e) found.2 read)));
         }
 
     pub attributes_there_too : (hash : ℕ) (a : EntryValue) → Contains (attributes_asked s ino hash) a → HasKey items (make_key ino xattr_item hash)

@@ -1,5 +1,5 @@
 -- Where no inode is faulty the items are those of the said subvolume, which is coherent.
-use Rattle.std.proofs.Common.{◌≡◌, ◌≢◌, ◌≤◌, ◌<◌, ◌+◌, ◌*◌, ◌⊎◌, ◌==◌, ◌||◌, ◌&&◌, ℕ, Bool, true, false, not, cond, nat_eq, List, [], ◌∷◌, length, filter, sum_by, Contains, Option, Some, None, Result, Ok, refl, sym, ap, subst, ◌∙◌, arith, inl, inr}
+use Rattle.std.proofs.Common.{◌≡◌, ◌≢◌, ◌≤◌, ◌*◌, ◌⊎◌, ◌&&◌, ℕ, Bool, true, not, nat_eq, List, [], ◌∷◌, filter, sum_by, Contains, Option, Some, refl, sym, ap, subst, ◌∙◌, arith, inl, inr}
 use Rattle.std.proofs.lemmas.Bool.{or_cases, and_parts, eqb-true, eq-eqb, cases_eq}
 use Rattle.std.specs.FinMap.{get, entries}
 use Rattle.blk_base.specs.declared.key.Key.{Key}
@@ -7,20 +7,18 @@ use Rattle.blk_base.specs.Crc.{name_hash_of, extref_hash_of}
 use Rattle.blk_base.specs.Keys.{inode_item, inode_ref, inode_extref, xattr_item, dir_item, dir_index, extent_data}
 use Rattle.blk_base.specs.Leaf.{Item}
 use Rattle.blk_base.specs.Items.{InodeValue, file_mode, dir_mode, link_mode}
-use Rattle.blk_base.specs.Entries.{EntryValue}
-use Rattle.blk_base.specs.ItemFaults.{is_subvolume_kind, is_entries_kind}
-use Rattle.flat_model.specs.Names.{FlatName}
-use Rattle.flat_model.specs.Records.{Attributes, InodeRecord, FileRecord, LinkRecord, FileInode, DirInode, LinkInode, attributes_of}
+use Rattle.blk_base.specs.ItemFaults.{is_subvolume_kind}
+use Rattle.flat_model.specs.Records.{InodeRecord, LinkRecord, FileInode, DirInode, LinkInode, attributes_of}
 use Rattle.flat_model.specs.Lengths.{most_item_bytes, ref_length, extref_length, entry_length, attribute_length, ref_item_length, extref_item_length, dir_item_length, xattr_item_length, link_extent_length}
-use Rattle.flat_model.specs.Volume.{Subvolume, is_dir_at}
-use Rattle.flat_model.specs.Coherent.{IsCoherent, ItemsFit, KeepsLinkLimits}
-use Rattle.volume_image.specs.Subvolume.{Data, AreItemsOf, IsAsked, InodeAsked, RefsAsked, ExtRefsAsked, AttributesAsked, HashedAsked, IndexedAsked, ExtentAsked, HasKey, IsInodeOf, make_key, refs_asked, extrefs_asked, attributes_asked, attributes_there, attribute_entry, hashed_asked, indexed_asked, mode_of, size_of, ref_of, extref_of}
+use Rattle.flat_model.specs.Volume.{Subvolume}
+use Rattle.flat_model.specs.Coherent.{IsCoherent}
+use Rattle.volume_image.specs.Subvolume.{Data, AreItemsOf, IsAsked, InodeAsked, RefsAsked, ExtRefsAsked, AttributesAsked, HashedAsked, IndexedAsked, ExtentAsked, IsInodeOf, make_key, refs_asked, extrefs_asked, attributes_asked, attributes_there, attribute_entry, hashed_asked, indexed_asked, mode_of, size_of, ref_of, extref_of}
 use Rattle.volume_image.proofs.Reaches.{head_in}
 use Rattle.volume_image.proofs.Members.{in_filter, has_some, not_empty}
 use Rattle.volume_image.proofs.ItemLengths.{ref_item_has_length, extref_item_has_length, dir_item_has_length, xattr_item_has_length}
 use Rattle.image_faults.specs.Said.{said_record, said_sub}
-use Rattle.image_faults.specs.Faulty.{AreReadable, HasData, IsThere, size_by, HasNoFault}
-use Rattle.image_faults.proofs.Readings.{as_made, said_in_order, entry_from, inode_from}
+use Rattle.image_faults.specs.Faulty.{AreReadable, HasData, size_by, HasNoFault}
+use Rattle.image_faults.proofs.Readings.{said_in_order, entry_from, inode_from}
 use Rattle.image_faults.proofs.Entries.{same_lengths}
 use Rattle.image_faults.proofs.Asking.{at_index, with_hash, asked_near, asked_far, asked_hash, asked_attribute}
 use Rattle.image_faults.proofs.OfInodes.{record_of_file, record_of_dir, record_of_link}

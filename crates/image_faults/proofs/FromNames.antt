@@ -1,9 +1,8 @@
 -- Where no inode is faulty: the names that the refs say, and the entries of directories, go together.
-use Rattle.std.proofs.Common.{◌≡◌, ◌≢◌, ◌≤◌, ◌<◌, ◌*◌, ◌⊎◌, ◌++◌, ◌==◌, ◌&&◌, ℕ, Bool, true, false, cond, List, [], ◌∷◌, length, filter, map, Contains, IsPermutation, Option, Some, None, Result, Ok, All, refl, sym, ap, subst, ◌∙◌, arith, inl, inr}
+use Rattle.std.proofs.Common.{◌≡◌, ◌≢◌, ◌<◌, ◌⊎◌, ◌++◌, ℕ, Bool, true, List, [], ◌∷◌, length, filter, map, Contains, Some, Ok, refl, sym, ap, subst, ◌∙◌, arith, inl, inr}
 use Rattle.std.proofs.lemmas.List.Elements.{All-from_recursion, All-contains, All-from_get_or, Contains-append_right}
 use Rattle.std.specs.List.{AllByRecursion}
 use Rattle.std.specs.FinMap.{get}
-use Rattle.blk_base.specs.declared.key.Key.{Key}
 use Rattle.blk_base.specs.Bytes.{IsBytes, number_bytes}
 use Rattle.blk_base.specs.Crc.{name_hash_of}
 use Rattle.blk_base.specs.Keys.{inode_item, inode_ref, inode_extref, dir_item, dir_index}
@@ -11,25 +10,25 @@ use Rattle.blk_base.specs.Leaf.{Item}
 use Rattle.blk_base.specs.Name.{IsName}
 use Rattle.blk_base.specs.Items.{InodeValue, IsInode, inode_of}
 use Rattle.blk_base.specs.Entries.{RefValue, ExtRefValue, EntryValue, IsEntries, IsEntryKind, refs_of, extrefs_of, entries_of, ref_bytes, extref_bytes}
-use Rattle.blk_base.specs.ItemFaults.{IsSpelled, LeadsToInode}
+use Rattle.blk_base.specs.ItemFaults.{LeadsToInode}
 use Rattle.item_laws.specs.Refs.{refs_to}
 use Rattle.item_laws.specs.ExtRefs.{extrefs_to}
 use Rattle.item_laws.proofs.FaultLaws.{item_spelled}
 use Rattle.format_laws.specs.Items.{inode_of-Ok}
 use Rattle.flat_model.specs.Names.{FlatName}
 use Rattle.flat_model.specs.Records.{InodeRecord}
-use Rattle.flat_model.specs.Volume.{Subvolume, is_dir_at}
+use Rattle.flat_model.specs.Volume.{Subvolume}
 use Rattle.flat_model.specs.Coherent.{AreBytes, IsNameBytes, IsIndexNumber}
 use Rattle.volume_image.specs.Subvolume.{Data, HasEntries, make_key, hashed_asked, indexed_asked, entry_of, entry_kind_of, without_transid, ref_of, extref_of}
 use Rattle.volume_image.proofs.Reaches.{head_in, tail_in}
 use Rattle.volume_image.proofs.Members.{in_filter, in_map, map_in, flat_map_in}
-use Rattle.image_faults.specs.Said.{PlacedEntry, read_list, is_own_ref, entries_at, said_record, said_names, said_sub}
+use Rattle.image_faults.specs.Said.{read_list, entries_at, said_record, said_sub}
 use Rattle.image_faults.specs.Faulty.{AreReadable, StandOnce, IsThere, IsEntryOf, IsRightRef, HasNoFault}
 use Rattle.image_faults.specs.Lists.{permuted, once_map, once_filter, once_names, once_entries}
 use Rattle.image_faults.proofs.Rising.{key_once}
-use Rattle.image_faults.proofs.Readings.{NearItem, FarItem, said_from, said_in_order, EntryItem, entry_in, entry_from, inode_from, inode_said}
+use Rattle.image_faults.proofs.Readings.{said_from, said_in_order, entry_in, entry_from, inode_from, inode_said}
 use Rattle.image_faults.proofs.Entries.{AreSpelled, GoTogether, entries_read, index_one}
-use Rattle.image_faults.proofs.Asking.{is_indexed_at, is_hashed_at, own_ref_is, at_index, asked_index, with_hash, asked_hash}
+use Rattle.image_faults.proofs.Asking.{is_indexed_at, is_hashed_at, at_index, asked_index, with_hash, asked_hash}
 
 -- ---- lists
 
@@ -126,8 +125,7 @@ module _ (items : List Item) (blocks : Data) (ok : AreReadable items) (right : (
     | inl item ↦
         let key = make_key name.ino inode_ref name.dir in
         let refs = (spelled key item.bytes item.there).refs refl in
-        let has : Contains refs.0 (ref_of name) = subst (λ (r : List RefValue). Contains r (ref_of name)) (ap read_list (refs_to key item.bytes refs.0 refs.1)) item.ref in
-        (
+        let has : Contains refs.0 (ref_of name) = subst (λ (r : List RefValue). Contains r (ref_of name)) (ap read_list (refs_to key item.bytes refs.0 refs.1)) item.ref in (
           elim (all_at (λ (r : RefValue). Rattle.blk_base.specs.Entries.IsRefName key r.name) refs.0 (ref_of name) refs.1.names has) [ inl is ↦ is | inr own ↦ absurd (root_has_no_name name c own.0.0) ],
           bytes_among name.bytes item.bytes (ok.bytes key item.bytes item.there)
               (λ byte d. subst (λ (b : List ℕ). Contains b byte) (sym refs.1.spelled)
@@ -136,8 +134,7 @@ module _ (items : List Item) (blocks : Data) (ok : AreReadable items) (right : (
     | inr item ↦
         let key = make_key name.ino inode_extref item.hash in
         let refs = (spelled key item.bytes item.there).extrefs refl in
-        let has : Contains refs.0 (extref_of name) = subst (λ (r : List ExtRefValue). Contains r (extref_of name)) (ap read_list (extrefs_to item.bytes refs.0 refs.1)) item.ref in
-        (
+        let has : Contains refs.0 (extref_of name) = subst (λ (r : List ExtRefValue). Contains r (extref_of name)) (ap read_list (extrefs_to item.bytes refs.0 refs.1)) item.ref in (
           all_at (λ (r : ExtRefValue). IsName r.name) refs.0 (extref_of name) refs.1.names has,
           bytes_among name.bytes item.bytes (ok.bytes key item.bytes item.there)
               (λ byte d. subst (λ (b : List ℕ). Contains b byte) (sym refs.1.spelled)
@@ -189,9 +186,9 @@ module _ (items : List Item) (blocks : Data) (ok : AreReadable items) (right : (
   entries_once : (dir : ℕ) (p : FlatName → Bool) → ((name : FlatName) → p name ≡ true → name.dir ≡ dir) → StandOnce (map (entry_of s) (filter p s.names))
   entries_once dir p in_dir = once_map (entry_of s) (filter p s.names)
       (λ n m c d e.
-          let kn = in_filter p s.names n c in
-          let km = in_filter p s.names m d in
-          no_name_twice n m kn.0 km.0 (in_dir n kn.1 ∙ sym (in_dir m km.1)) (ap (λ (x : EntryValue). x.name) e))
+      let kn = in_filter p s.names n c in
+      let km = in_filter p s.names m d in
+      no_name_twice n m kn.0 km.0 (in_dir n kn.1 ∙ sym (in_dir m km.1)) (ap (λ (x : EntryValue). x.name) e))
       (once_filter p s.names (once_names s.names (said_in_order items)))
 
   pub hashed_is : (dir hash : ℕ) (bytes : List ℕ) → Contains items (make_key dir dir_item hash, bytes) → HasEntries dir_item bytes (hashed_asked s dir hash)
@@ -203,22 +200,22 @@ module _ (items : List Item) (blocks : Data) (ok : AreReadable items) (right : (
         same = permuted (map without_transid found.0) (hashed_asked s dir hash) (once_entries found.0 found.1.once)
             (entries_once dir (is_hashed_at dir hash) (λ n e. Rattle.std.proofs.lemmas.Bool.eqb-true n.dir dir (Rattle.std.proofs.lemmas.Bool.and_parts _ _ e).0))
             (λ a c.
-                let e = in_map without_transid found.0 a c in
-                let placed = entry_in items dir_item dir hash bytes e.0 there (subst (λ (es : List EntryValue). Contains es e.0) (sym found.2) e.1) in
-                let fellow = ((right dir).hashed hash e.0 placed).indexed in
-                let ref = ((right dir).indexed fellow.0 fellow.1 fellow.2).ref in
-                let of : IsEntryOf ref.0 e.0 = record { bytes = sym fellow.3 ∙ ref.4.bytes; ino = sym fellow.4 ∙ ref.4.ino } in
-                let says = hashed_says dir hash bytes ref.0 e.0 there placed ref.1 of in
-                subst (λ (x : EntryValue). Contains (hashed_asked s dir hash) x) (sym says.1 ∙ e.2)
-                (subst (λ (h : ℕ). Contains (hashed_asked s dir h) (entry_of s ref.0)) (ap name_hash_of (sym of.bytes) ∙ says.0)
-                (subst (λ (d : ℕ). Contains (hashed_asked s d (name_hash_of ref.0.bytes)) (entry_of s ref.0)) ref.2 (asked_hash s ref.0 ref.1))))
+            let e = in_map without_transid found.0 a c in
+            let placed = entry_in items dir_item dir hash bytes e.0 there (subst (λ (es : List EntryValue). Contains es e.0) (sym found.2) e.1) in
+            let fellow = ((right dir).hashed hash e.0 placed).indexed in
+            let ref = ((right dir).indexed fellow.0 fellow.1 fellow.2).ref in
+            let of : IsEntryOf ref.0 e.0 = record { bytes = sym fellow.3 ∙ ref.4.bytes; ino = sym fellow.4 ∙ ref.4.ino } in
+            let says = hashed_says dir hash bytes ref.0 e.0 there placed ref.1 of in
+            subst (λ (x : EntryValue). Contains (hashed_asked s dir hash) x) (sym says.1 ∙ e.2)
+            (subst (λ (h : ℕ). Contains (hashed_asked s dir h) (entry_of s ref.0)) (ap name_hash_of (sym of.bytes) ∙ says.0)
+            (subst (λ (d : ℕ). Contains (hashed_asked s d (name_hash_of ref.0.bytes)) (entry_of s ref.0)) ref.2 (asked_hash s ref.0 ref.1))))
             (λ a c.
-                let name = with_hash s dir hash a c in
-                let e = (ref_at name.0 name.1).hashed in
-                let placed = subst (λ (h : ℕ). Contains (entries_at items dir_item dir) (h, e.0)) name.3 (subst (λ (d : ℕ). Contains (entries_at items dir_item d) (name_hash_of name.0.bytes, e.0)) name.2 e.1) in
-                let inside = subst (λ (es : List EntryValue). Contains es e.0) found.2 (placed_in dir_item dir hash bytes e.0 placed there) in
-                let says = hashed_says dir hash bytes name.0 e.0 there placed name.1 e.2 in
-                subst (λ (x : EntryValue). Contains (map without_transid found.0) x) (says.1 ∙ name.4) (map_in without_transid found.0 e.0 inside));
+            let name = with_hash s dir hash a c in
+            let e = (ref_at name.0 name.1).hashed in
+            let placed = subst (λ (h : ℕ). Contains (entries_at items dir_item dir) (h, e.0)) name.3 (subst (λ (d : ℕ). Contains (entries_at items dir_item d) (name_hash_of name.0.bytes, e.0)) name.2 e.1) in
+            let inside = subst (λ (es : List EntryValue). Contains es e.0) found.2 (placed_in dir_item dir hash bytes e.0 placed there) in
+            let says = hashed_says dir hash bytes name.0 e.0 there placed name.1 e.2 in
+            subst (λ (x : EntryValue). Contains (map without_transid found.0) x) (says.1 ∙ name.4) (map_in without_transid found.0 e.0 inside));
       }
 
   pub indexed_is : (dir index : ℕ) (bytes : List ℕ) → Contains items (make_key dir dir_index index, bytes) → HasEntries dir_index bytes (indexed_asked s dir index)
@@ -230,18 +227,18 @@ module _ (items : List Item) (blocks : Data) (ok : AreReadable items) (right : (
         same = permuted (map without_transid found.0) (indexed_asked s dir index) (once_entries found.0 found.1.once)
             (entries_once dir (is_indexed_at dir index) (λ n e. Rattle.std.proofs.lemmas.Bool.eqb-true n.dir dir (Rattle.std.proofs.lemmas.Bool.and_parts _ _ e).0))
             (λ a c.
-                let e = in_map without_transid found.0 a c in
-                let placed = entry_in items dir_index dir index bytes e.0 there (subst (λ (es : List EntryValue). Contains es e.0) (sym found.2) e.1) in
-                let ref = ((right dir).indexed index e.0 placed).ref in
-                let says = indexed_says dir index bytes ref.0 e.0 there placed ref.1 ref.4 in
-                subst (λ (x : EntryValue). Contains (indexed_asked s dir index) x) (sym says ∙ e.2)
-                (subst (λ (h : ℕ). Contains (indexed_asked s dir h) (entry_of s ref.0)) ref.3
-                (subst (λ (d : ℕ). Contains (indexed_asked s d ref.0.index) (entry_of s ref.0)) ref.2 (asked_index s ref.0 ref.1))))
+            let e = in_map without_transid found.0 a c in
+            let placed = entry_in items dir_index dir index bytes e.0 there (subst (λ (es : List EntryValue). Contains es e.0) (sym found.2) e.1) in
+            let ref = ((right dir).indexed index e.0 placed).ref in
+            let says = indexed_says dir index bytes ref.0 e.0 there placed ref.1 ref.4 in
+            subst (λ (x : EntryValue). Contains (indexed_asked s dir index) x) (sym says ∙ e.2)
+            (subst (λ (h : ℕ). Contains (indexed_asked s dir h) (entry_of s ref.0)) ref.3
+            (subst (λ (d : ℕ). Contains (indexed_asked s d ref.0.index) (entry_of s ref.0)) ref.2 (asked_index s ref.0 ref.1))))
             (λ a c.
-                let name = at_index s dir index a c in
-                let e = (ref_at name.0 name.1).indexed in
-                let placed = subst (λ (h : ℕ). Contains (entries_at items dir_index dir) (h, e.0)) name.3 (subst (λ (d : ℕ). Contains (entries_at items dir_index d) (name.0.index, e.0)) name.2 e.1) in
-                let inside = subst (λ (es : List EntryValue). Contains es e.0) found.2 (placed_in dir_index dir index bytes e.0 placed there) in
-                let says = indexed_says dir index bytes name.0 e.0 there placed name.1 e.2 in
-                subst (λ (x : EntryValue). Contains (map without_transid found.0) x) (says ∙ name.4) (map_in without_transid found.0 e.0 inside));
+            let name = at_index s dir index a c in
+            let e = (ref_at name.0 name.1).indexed in
+            let placed = subst (λ (h : ℕ). Contains (entries_at items dir_index dir) (h, e.0)) name.3 (subst (λ (d : ℕ). Contains (entries_at items dir_index d) (name.0.index, e.0)) name.2 e.1) in
+            let inside = subst (λ (es : List EntryValue). Contains es e.0) found.2 (placed_in dir_index dir index bytes e.0 placed there) in
+            let says = indexed_says dir index bytes name.0 e.0 there placed name.1 e.2 in
+            subst (λ (x : EntryValue). Contains (map without_transid found.0) x) (says ∙ name.4) (map_in without_transid found.0 e.0 inside));
       }

@@ -1,5 +1,5 @@
 -- What was read of an item of entries, where it is one that a subvolume asks for.
-use Rattle.std.proofs.Common.{◌≡◌, ℕ, List, map, Contains, IsPermutation, sym, ap, subst}
+use Rattle.std.proofs.Common.{◌≡◌, ℕ, List, map, Contains, sym, ap, subst}
 use Rattle.std.proofs.lemmas.List.Sorted.{IsPermutation-sym, Contains-permutation}
 use Rattle.blk_base.specs.Entries.{EntryValue, entries_of}
 use Rattle.item_laws.specs.Directories.{entries_to}

@@ -11,3 +11,4 @@ pub mod FromNames
 pub mod FromItems
 pub mod FromExtents
 pub mod FromLines
+pub mod Firsts

@@ -1,32 +1,31 @@
 -- The inodes that the items of a subvolume say are its inodes.
-use Rattle.std.proofs.Common.{◌≡◌, ◌≢◌, ◌≤◌, ◌<◌, ◌+◌, ◌-◌, ◌*◌, ◌/◌, ◌%◌, ◌++◌, ℕ, Bool, true, false, cond, List, [], ◌∷◌, map, flat_map, Contains, Option, Some, Result, Ok, Equal, nat_cmp, refl, sym, ap, subst, ◌∙◌, arith, inl, inr}
+use Rattle.std.proofs.Common.{◌≡◌, ◌≤◌, ◌<◌, ◌+◌, ◌-◌, ◌*◌, ◌/◌, ◌%◌, ◌++◌, ℕ, Bool, true, false, cond, List, [], ◌∷◌, map, flat_map, Contains, Option, Some, Ok, Equal, nat_cmp, refl, sym, ap, subst, ◌∙◌, arith, inl, inr}
 use Rattle.std.proofs.lemmas.Bool.{and_parts, eqb-true, eq-eqb}
 use Rattle.std.specs.Cmp.{nat_cmp_total}
 use Rattle.std.specs.Cmp.Lexicographic.{slice_cmp, nat_list_cmp_total}
 use Rattle.std.specs.FinMap.{get, nat_cmp-IsAntisymmetric, slice_cmp-IsAntisymmetric}
 use Rattle.blk_base.specs.declared.key.Key.{Key}
-use Rattle.blk_base.specs.declared.fault.ItemFault.{ItemFault}
 use Rattle.blk_base.specs.Crc.{name_hash_of}
 use Rattle.blk_base.specs.Keys.{inode_item, xattr_item, extent_data}
 use Rattle.blk_base.specs.Leaf.{Item}
-use Rattle.blk_base.specs.Items.{InodeValue, inode_of, file_mode, dir_mode, link_mode}
+use Rattle.blk_base.specs.Items.{InodeValue, file_mode, dir_mode, link_mode}
 use Rattle.blk_base.specs.Entries.{EntryValue}
-use Rattle.blk_base.specs.Extents.{ExtentValue, Inline, Regular, extent_of}
+use Rattle.blk_base.specs.Extents.{Inline, Regular, extent_of}
 use Rattle.item_laws.specs.ExtentLaws.{extent_to}
 use Rattle.format_laws.specs.Items.{inode_of-Ok}
-use Rattle.flat_model.specs.Records.{InodeRecord, FileRecord, LinkRecord, DirRecord, FileInode, DirInode, LinkInode, attributes_of}
+use Rattle.flat_model.specs.Records.{InodeRecord, FileRecord, LinkRecord, FileInode, DirInode, LinkInode, attributes_of}
 use Rattle.flat_model.specs.Volume.{Subvolume}
-use Rattle.volume_image.specs.Subvolume.{Data, AreItemsOf, IsInodeOf, IsExtentOf, make_key, attributes_asked, attributes_there, attribute_entry, mode_of, size_of, without_transid, extent_len}
+use Rattle.volume_image.specs.Subvolume.{Data, AreItemsOf, IsExtentOf, make_key, attributes_asked, attributes_there, attribute_entry, mode_of, size_of, without_transid, extent_len}
 use Rattle.volume_image.specs.Tree.{ItemsRise}
 use Rattle.volume_image.proofs.Lists.{in_nothing, in_cons}
 use Rattle.volume_image.proofs.Reaches.{head_in, tail_in}
 use Rattle.volume_image.proofs.Members.{not_empty, in_map, map_in, get_in, in_get}
 use Rattle.volume_image.proofs.Extents.{regular_is_read, extent_len_regular}
 use Rattle.volume_image.proofs.Asked.{asked_inode, asked_attributes, asked_extent}
-use Rattle.image_faults.specs.Said.{PlacedEntry, is_item_of, entries_at, attribute_of, said_attributes, said_blocks, said_target, target_in, inline_content, said_record, said_inodes}
+use Rattle.image_faults.specs.Said.{is_item_of, entries_at, attribute_of, said_attributes, said_blocks, said_target, target_in, inline_content, said_record, said_inodes}
 use Rattle.image_faults.specs.Lists.{gives_map}
 use Rattle.image_faults.proofs.Rising.{head_below, rise_tail, not_below_itself}
-use Rattle.image_faults.proofs.Readings.{EntryItem, entry_in, entry_from, file_blocks_list, BlockItem, block_in, block_from, InodeItem, inode_list, inode_listed, list_inode}
+use Rattle.image_faults.proofs.Readings.{entry_in, entry_from, file_blocks_list, BlockItem, block_in, block_from, inode_list, inode_listed, list_inode}
 use Rattle.image_faults.proofs.Asking.{with_attribute, asked_attribute}
 use Rattle.image_faults.proofs.Held.{asked_from, asked_to}
 

@@ -1,23 +1,21 @@
 -- Of the items of a coherent subvolume no inode is faulty.
-use Rattle.std.proofs.Common.{◌≡◌, ◌≢◌, ◌≤◌, ◌<◌, ◌*◌, ◌⊎◌, ◌++◌, ◌==◌, ◌||◌, ◌&&◌, ℕ, Bool, true, false, cond, nat_eq, List, [], ◌∷◌, length, filter, map, sum_by, Contains, IsPermutation, Option, Some, None, Result, Ok, refl, sym, ap, subst, ◌∙◌, arith, inl, inr}
-use Rattle.std.proofs.lemmas.Bool.{eqb-true, eq-eqb, cases_eq, and_parts}
+use Rattle.std.proofs.Common.{◌≡◌, ◌*◌, ◌==◌, ◌||◌, ℕ, true, false, cond, List, map, Contains, Option, Some, None, Ok, refl, sym, ap, subst, ◌∙◌, inl, inr}
 use Rattle.std.proofs.lemmas.List.Sorted.{IsPermutation-sym, Contains-permutation}
 use Rattle.std.specs.FinMap.{get}
 use Rattle.blk_base.specs.declared.key.Key.{Key}
-use Rattle.blk_base.specs.declared.fault.ItemFault.{ItemFault}
-use Rattle.blk_base.specs.Crc.{name_hash_of, extref_hash_of}
-use Rattle.blk_base.specs.Keys.{inode_item, inode_ref, inode_extref, xattr_item, dir_item, dir_index, extent_data}
+use Rattle.blk_base.specs.Crc.{name_hash_of}
+use Rattle.blk_base.specs.Keys.{inode_item, inode_ref, inode_extref, dir_item, dir_index, extent_data}
 use Rattle.blk_base.specs.Leaf.{Item}
 use Rattle.blk_base.specs.Items.{InodeValue, inode_of}
-use Rattle.blk_base.specs.Entries.{RefValue, ExtRefValue, EntryValue, refs_of, extrefs_of, dots}
-use Rattle.blk_base.specs.Extents.{ExtentValue, Inline, Regular, extent_of}
+use Rattle.blk_base.specs.Entries.{EntryValue, refs_of}
+use Rattle.blk_base.specs.Extents.{Inline, extent_of}
 use Rattle.item_laws.specs.ExtentLaws.{extent_to}
 use Rattle.format_laws.specs.Items.{inode_of-Ok}
 use Rattle.flat_model.specs.Names.{FlatName}
 use Rattle.flat_model.specs.Records.{InodeRecord, FileInode, DirInode, LinkInode}
 use Rattle.flat_model.specs.Volume.{Subvolume, is_dir_at, is_dir_there}
 use Rattle.flat_model.specs.Coherent.{IsCoherent, IsInoNumber}
-use Rattle.volume_image.specs.Subvolume.{Data, AreItemsOf, IsAsked, InodeAsked, RefsAsked, ExtRefsAsked, AttributesAsked, HashedAsked, IndexedAsked, ExtentAsked, HasEntries, HasKey, IsInodeOf, IsExtentOf, make_key, refs_asked, extrefs_asked, attributes_asked, attributes_there, hashed_asked, indexed_asked, ref_of, extref_of, entry_of, entry_kind_of, without_transid, size_of}
+use Rattle.volume_image.specs.Subvolume.{Data, AreItemsOf, IsAsked, InodeAsked, RefsAsked, ExtRefsAsked, AttributesAsked, HashedAsked, IndexedAsked, ExtentAsked, HasEntries, IsInodeOf, IsExtentOf, make_key, refs_asked, extrefs_asked, attributes_asked, attributes_there, hashed_asked, indexed_asked, entry_of, entry_kind_of, without_transid, size_of}
 use Rattle.volume_image.specs.Tree.{ItemsRise}
 use Rattle.volume_image.proofs.Lists.{in_nothing}
 use Rattle.volume_image.proofs.Members.{not_empty, has_some, map_in}
@@ -26,7 +24,7 @@ use Rattle.volume_image.proofs.Asked.{asked_inode, asked_hashed, asked_indexed}
 use Rattle.volume_image.proofs.OwnKeys.{has_its_key, asked_is_spelled, asked_kind}
 use Rattle.image_faults.specs.Said.{PlacedEntry, read_list, entries_at, said_sub}
 use Rattle.image_faults.specs.Faulty.{StandOnce, IsThere, HasOwnRef, is_extent_for, is_for_kind, HasRightKey, size_by, HasRightNumbers, IsEntryOf, IsRightIndexed, IsRightHashed, IsRightRef, HasRefsOnce, KeepsRules, IsRightInode, HasNoFault}
-use Rattle.image_faults.specs.Lists.{once_permuted, once_map, once_filter, once_names, once_append, one_once}
+use Rattle.image_faults.specs.Lists.{once_permuted}
 use Rattle.image_faults.proofs.Readings.{EntryItem, entry_in, entry_from}
 use Rattle.image_faults.proofs.Entries.{GoTogether, same_lengths, AreSpelled}
 use Rattle.image_faults.proofs.Asking.{is_near_at, is_far_at, own_ref, own_asked, in_own, ref_asked, far_asked, at_index, asked_index, with_hash, asked_hash, with_attribute}
@@ -43,7 +41,7 @@ pub attributes_of_some : (o : Option InodeRecord) (pair : List ℕ × List ℕ) 
 attributes_of_some None pair c = absurd (in_nothing pair c)
 attributes_of_some (Some inode) pair c = (inode, refl)
 
-dir_is_there : (o : Option InodeRecord) → is_dir_there o ≡ true → (inode : InodeRecord) × (o ≡ Some inode)
+pub dir_is_there : (o : Option InodeRecord) → is_dir_there o ≡ true → (inode : InodeRecord) × (o ≡ Some inode)
 dir_is_there None e = absurd (let no : false ≡ true = e in cc)
 dir_is_there (Some inode) e = (inode, refl)
 

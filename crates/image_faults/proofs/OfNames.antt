@@ -1,11 +1,11 @@
 -- The names that the items of a coherent subvolume say are its names.
-use Rattle.std.proofs.Common.{◌≡◌, ◌≢◌, ◌⊎◌, ◌++◌, ℕ, Bool, true, false, List, [], ◌∷◌, map, Contains, Some, IsPermutation, refl, sym, ap, subst, ◌∙◌, arith, inl, inr}
-use Rattle.std.proofs.lemmas.Bool.{cases_Bool, false_from_ne_true}
+use Rattle.std.proofs.Common.{◌≡◌, ◌⊎◌, ℕ, Bool, true, false, List, Contains, IsPermutation, refl, sym, ap, subst, ◌∙◌, inl, inr}
+use Rattle.std.proofs.lemmas.Bool.{false_from_ne_true}
 use Rattle.std.proofs.lemmas.List.Sorted.{IsPermutation-sym, Contains-permutation}
 use Rattle.blk_base.specs.Crc.{extref_hash_of}
 use Rattle.blk_base.specs.Keys.{inode_ref, inode_extref}
 use Rattle.blk_base.specs.Leaf.{Item}
-use Rattle.blk_base.specs.Entries.{RefValue, ExtRefValue, IsRefs, IsExtRefs, refs_of, extrefs_of}
+use Rattle.blk_base.specs.Entries.{RefValue, ExtRefValue, refs_of, extrefs_of}
 use Rattle.item_laws.specs.Refs.{refs_to}
 use Rattle.item_laws.specs.ExtRefs.{extrefs_to}
 use Rattle.flat_model.specs.Names.{FlatName}

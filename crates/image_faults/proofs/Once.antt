@@ -1,5 +1,5 @@
 -- What a set of names asks for under one key stands once.
-use Rattle.std.proofs.Common.{◌≡◌, ◌≢◌, ◌&&◌, ℕ, Bool, true, false, not, cond, nat_eq, List, [], ◌∷◌, filter, map, Contains, sym, ap, ◌∙◌}
+use Rattle.std.proofs.Common.{◌≡◌, ◌≢◌, ◌&&◌, ℕ, Bool, true, false, cond, nat_eq, [], ◌∷◌, filter, map, Contains, sym, ap, ◌∙◌}
 use Rattle.std.proofs.lemmas.Bool.{and_parts, eqb-true, not-true}
 use Rattle.blk_base.specs.Entries.{RefValue, ExtRefValue}
 use Rattle.flat_model.specs.Names.{FlatName, is_name_set}

@@ -1,5 +1,5 @@
 -- What stands among what the items say, and in which item.
-use Rattle.std.proofs.Common.{◌≡◌, ◌<◌, ◌+◌, ◌*◌, ◌/◌, ◌==◌, ◌&&◌, ◌⊎◌, ◌++◌, ℕ, zero, suc, Bool, true, false, not, cond, nat_eq, nat_cmp, List, [], ◌∷◌, filter, map, flat_map, Contains, Option, Some, None, Result, Ok, Err, refl, sym, ap, subst, ◌∙◌, arith, inl, inr}
+use Rattle.std.proofs.Common.{◌≡◌, ◌<◌, ◌+◌, ◌*◌, ◌/◌, ◌==◌, ◌&&◌, ◌⊎◌, ℕ, zero, suc, Bool, true, false, not, cond, List, [], ◌∷◌, filter, map, flat_map, Contains, Option, Some, None, Result, Ok, Err, refl, sym, ap, subst, ◌∙◌, arith, inl, inr}
 use Rattle.std.proofs.lemmas.Bool.{and_parts, and_from, eqb-true, eq-eqb, not-true, not_from_false}
 use Rattle.std.proofs.lemmas.List.Elements.{Contains-append_left, Contains-append_right, Contains-append_cases}
 use Rattle.std.specs.Cmp.{nat_cmp_total}
@@ -19,7 +19,7 @@ use Rattle.volume_image.specs.Tree.{ItemsRise}
 use Rattle.volume_image.proofs.Lists.{in_nothing, in_cons}
 use Rattle.volume_image.proofs.Reaches.{head_in}
 use Rattle.volume_image.proofs.Members.{in_filter, filter_in, in_map, map_in, flat_map_in}
-use Rattle.image_faults.specs.Said.{PlacedEntry, read_list, is_own_ref, near_name, far_name, names_in, said_names, is_item_of, entries_in, entries_at, block_there, run_blocks, extent_blocks, blocks_in, inline_content, target_in, said_target, said_record, record_by, inode_in, said_inodes}
+use Rattle.image_faults.specs.Said.{PlacedEntry, read_list, is_own_ref, near_name, far_name, names_in, said_names, is_item_of, entries_at, block_there, run_blocks, extent_blocks, blocks_in, inline_content, said_target, said_record, record_by, inode_in, said_inodes}
 use Rattle.image_faults.specs.Lists.{in_flat_map, taken, given}
 use Rattle.image_faults.proofs.Rising.{key_once}
 
@@ -308,9 +308,9 @@ unfolding said_inodes
 inode_said items blocks ino bytes value rise there read =
     given nat_cmp_total nat_cmp-IsAntisymmetric (inode_list items blocks) ino (said_record items blocks ino value)
     (λ w c.
-        let item = inode_listed items blocks ino w c in
-        let same = key_once items (make_key ino inode_item 0) item.bytes bytes rise item.there there in
-        let one : Ok item.value ≡ Ok value = sym item.read ∙ ap inode_of same ∙ read in
-        let values : item.value ≡ value = cc in
-        item.is ∙ ap (said_record items blocks ino) values)
+    let item = inode_listed items blocks ino w c in
+    let same = key_once items (make_key ino inode_item 0) item.bytes bytes rise item.there there in
+    let one : Ok item.value ≡ Ok value = sym item.read ∙ ap inode_of same ∙ read in
+    let values : item.value ≡ value = cc in
+    item.is ∙ ap (said_record items blocks ino) values)
     (list_inode items blocks ino bytes value there read)

@@ -1,10 +1,10 @@
 -- One key has one item among rising items.
-use Rattle.std.proofs.Common.{◌≡◌, ℕ, List, [], ◌∷◌, Contains, Ordering, Less, Equal, sym, ap, subst, ◌∙◌, inl, inr}
+use Rattle.std.proofs.Common.{◌≡◌, ℕ, List, [], ◌∷◌, Contains, Less, Equal, sym, ap, subst, ◌∙◌, inl, inr}
 use Rattle.blk_base.specs.declared.key.Key.{Key}
 use Rattle.blk_base.specs.Keys.{KeyBelow, key_cmp}
 use Rattle.blk_base.specs.Leaf.{Item}
 use Rattle.leaf_view.specs.KeyOrder.{KeyBelow_trans}
-use Rattle.volume_image.specs.Tree.{ItemsRise, key_eq}
+use Rattle.volume_image.specs.Tree.{ItemsRise}
 use Rattle.volume_image.proofs.Lists.{in_nothing, in_cons}
 use Rattle.volume_image.proofs.Rising.{key_eq-same, equal_from_test}
 

@@ -1,6 +1,6 @@
 -- Whether an inode is faulty, and which is the lowest faulty one: the type of a decision says what it decides.
-use Rattle.std.specs.Prelude.{◌≡◌, ◌≢◌, ◌≤◌, ◌<◌, ◌+◌, ◌*◌, ◌==◌, ℕ, zero, suc, min, Bool, true, false, List, [], ◌∷◌, length, map, Option, Some, None, Result, Ok, Err, Contains, All, IsTrue, slice_index, slice_get, ◌^◌}
-use Rattle.std.proofs.Common.{refl, sym, ap, subst, ◌∙◌, arith, inl, inr, ◌⊎◌, Ordering, Equal}
+use Rattle.std.specs.Prelude.{◌≡◌, ◌≢◌, ◌≤◌, ◌<◌, ◌+◌, ◌*◌, ℕ, zero, suc, Bool, true, false, List, [], ◌∷◌, length, Some, Result, Ok, Err, Contains, slice_index, slice_get, ◌^◌}
+use Rattle.std.proofs.Common.{refl, sym, ap, subst, arith, inl, inr, Ordering}
 use Rattle.std.specs.List.{AllByRecursion, flat_map}
 use Rattle.std.specs.Cmp.{IsTotalOrder, nat_cmp_total}
 use Rattle.std.specs.Cmp.Lexicographic.{nat_list_cmp_total}
@@ -19,14 +19,14 @@ use Rattle.blk_base.specs.ItemFaults.{is_subvolume_kind, HasItsKey, LeadsToInode
 use Rattle.item_laws.specs.ExtRefs.{extrefs_to}
 use Rattle.item_laws.specs.Directories.{entries_to}
 use Rattle.flat_model.specs.Names.{FlatName, links_of}
-use Rattle.flat_model.specs.Records.{Attributes, FileRecord, LinkRecord, InodeRecord, FileInode, DirInode, LinkInode, attributes_of}
+use Rattle.flat_model.specs.Records.{Attributes, InodeRecord, FileInode, DirInode, LinkInode, attributes_of}
 use Rattle.flat_model.specs.Volume.{Subvolume, is_dir_at}
 use Rattle.flat_model.specs.Contents.{block_bytes, most_file_bytes}
-use Rattle.flat_model.specs.Coherent.{IsInoNumber, IsIndexNumber, IsLinkCount, IsNameBytes, AreBytes, KeepAttributeLimits, KeepsBlockLimits, KeepsFileLimits, KeepsLinkLimits, KeepsKindLimits, KeepsLimits, LeadsUp, greatest_number, most_links}
+use Rattle.flat_model.specs.Coherent.{IsIndexNumber, IsLinkCount, IsNameBytes, AreBytes, KeepAttributeLimits, KeepsBlockLimits, KeepsKindLimits, KeepsLimits, greatest_number, most_links}
 use Rattle.volume_image.specs.Subvolume.{Data, HasKey, make_key, nlink_of, nbytes_of, entry_kind_of}
 use Rattle.volume_image.proofs.Members.{get_in, in_get}
 use Rattle.image_faults.specs.Said.{PlacedEntry, read_list, entries_at, said_sub}
-use Rattle.image_faults.specs.Faulty.{StandOnce, IsThere, HasOwnRef, is_for_kind, HasRightKey, size_by, HasRightNumbers, IsEntryOf, IsRightIndexed, IsRightHashed, IsRightRef, HasRefsOnce, KeepsRules, IsRightInode, HasNoFault, IsFaulty}
+use Rattle.image_faults.specs.Faulty.{StandOnce, IsThere, HasOwnRef, is_for_kind, HasRightKey, size_by, HasRightNumbers, IsEntryOf, IsRightIndexed, IsRightHashed, IsRightRef, HasRefsOnce, KeepsRules, IsRightInode, HasNoFault}
 use Rattle.image_faults.specs.Decisions.{map_told, both_told, either_told, if_told, not_told, same_number, at_most, is_so, each_below, each_in, one_in, all_told, all_by_place, is_in, same_list, if_some, if_ok}
 use Rattle.image_faults.specs.Ways.{way_told}
 

@@ -1,5 +1,5 @@
 -- When an inode is faulty, among rising items none of which has a fault of its own: what must hold of it and of its items, line by line.
-use Rattle.std.specs.Prelude.{◌≡◌, ◌≢◌, ◌≤◌, ◌+◌, ◌*◌, ℕ, Bool, true, false, ◌||◌, ◌==◌, List, [], ◌∷◌, length, sum_by, Option, Some, None, Result, Ok, Err, Contains, IsTrue, if◌then◌else◌, ◌<◌}
+use Rattle.std.specs.Prelude.{◌≡◌, ◌≢◌, ◌≤◌, ◌+◌, ◌*◌, ℕ, Bool, true, false, ◌||◌, ◌==◌, List, [], ◌∷◌, length, sum_by, Option, Some, None, Result, Ok, Contains, IsTrue, if◌then◌else◌, ◌<◌}
 use Rattle.std.specs.FinMap.{get}
 use Rattle.blk_base.specs.declared.format.TheConstants.{FIRST_FREE}
 use Rattle.blk_base.specs.declared.key.Key.{Key}
@@ -10,7 +10,7 @@ use Rattle.blk_base.specs.Keys.{inode_item, inode_ref, inode_extref, dir_item, d
 use Rattle.blk_base.specs.Leaf.{Item}
 use Rattle.blk_base.specs.Trees.{ItemsRise}
 use Rattle.blk_base.specs.Items.{InodeValue, inode_of}
-use Rattle.blk_base.specs.Entries.{RefValue, EntryValue, refs_of, extrefs_of, dots}
+use Rattle.blk_base.specs.Entries.{EntryValue, refs_of, extrefs_of, dots}
 use Rattle.blk_base.specs.Extents.{ExtentValue, Inline, Regular, extent_of}
 use Rattle.blk_base.specs.ItemFaults.{item_fault, is_subvolume_kind, HasItsKey}
 use Rattle.flat_model.specs.Names.{FlatName, links_of}

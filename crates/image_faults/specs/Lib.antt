@@ -4,3 +4,4 @@ pub mod Lists
 pub mod Decisions
 pub mod Ways
 pub mod Decided
+pub mod Lowest

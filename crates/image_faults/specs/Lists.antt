@@ -1,5 +1,5 @@
 -- Lists in which everything stands once, and maps of a list of entries.
-use Rattle.std.proofs.Common.{◌≡◌, ◌≢◌, ◌<◌, ◌≤◌, ◌&&◌, ◌++◌, ℕ, zero, suc, Bool, true, false, cond, T, List, [], ◌∷◌, length, filter, map, flat_map, Contains, IsPermutation, Option, Some, None, slice_get, get_or, Ordering, Less, Equal, Greater, is_eq, is_lt, refl, sym, ap, subst, ◌∙◌, arith, inl, inr}
+use Rattle.std.proofs.Common.{◌≡◌, ◌≢◌, ◌<◌, ◌≤◌, ◌&&◌, ◌++◌, ℕ, zero, suc, Bool, true, false, cond, T, List, [], ◌∷◌, length, filter, map, flat_map, Contains, IsPermutation, Some, slice_get, get_or, Ordering, Less, Equal, Greater, is_eq, is_lt, refl, sym, ap, subst, ◌∙◌, arith, inl, inr}
 use Rattle.std.proofs.lemmas.List.Sorted.{IsPermutation-refl, IsPermutation-sym, IsPermutation-cons, IsPermutation-trans, IsPermutation-middle, Contains-permutation, length_permutation}
 use Rattle.std.proofs.lemmas.List.Elements.{Contains-append_left, Contains-append_right, Contains-append_cases}
 use Rattle.std.specs.Ordering.{ordering_reverse}
@@ -54,11 +54,13 @@ not_middle front x back y c other = elim (Contains-append_cases front (x ∷ bac
 once_without : {X : Type 0} (front : List X) (x : X) (back : List X) → StandOnce (front ++ (x ∷ back)) → StandOnce (front ++ back) × (Contains (front ++ back) x → ⊥)
 once_without [] x back d = (d.1, d.0)
 once_without {X} (y ∷ front) x back d =
-    let rest = once_without front x back d.1 in
-    ((λ c. d.0 (wider front x back y c), rest.0), λ c. elim (in_cons y x (front ++ back) c) [
-      | inl same ↦ d.0 (subst (λ (z : X). Contains (front ++ (x ∷ back)) z) (sym same) (middle_in front x back))
-      | inr there ↦ rest.1 there
-    ])
+    let rest = once_without front x back d.1 in (
+      (λ c. d.0 (wider front x back y c), rest.0),
+      λ c. elim (in_cons y x (front ++ back) c) [
+        | inl same ↦ d.0 (subst (λ (z : X). Contains (front ++ (x ∷ back)) z) (sym same) (middle_in front x back))
+        | inr there ↦ rest.1 there
+      ],
+    )
 
 -- two lists of the same elements, each once, are one in two orders
 pub permuted : {X : Type 0} (xs ys : List X) → StandOnce xs → StandOnce ys → ((x : X) → Contains xs x → Contains ys x) → ((x : X) → Contains ys x → Contains xs x) → IsPermutation xs ys
@@ -92,9 +94,9 @@ once_filter {X} p (x ∷ xs) d = go (p x) (once_filter p xs d.1)
 pub once_map : {X Y : Type 0} (f : X → Y) (xs : List X) → ((a b : X) → Contains xs a → Contains xs b → f a ≡ f b → a ≡ b) → StandOnce xs → StandOnce (map f xs)
 once_map f [] one d = tt
 once_map {X} f (x ∷ xs) one d = (
-    λ c. let found = in_map f xs (f x) c in d.0 (subst (λ (z : X). Contains xs z) (one found.0 x (tail_in x found.0 xs found.1) (head_in x xs) found.2) found.1),
-    once_map f xs (λ a b ca cb e. one a b (tail_in x a xs ca) (tail_in x b xs cb) e) d.1,
-  )
+  λ c. let found = in_map f xs (f x) c in d.0 (subst (λ (z : X). Contains xs z) (one found.0 x (tail_in x found.0 xs found.1) (head_in x xs) found.2) found.1),
+  once_map f xs (λ a b ca cb e. one a b (tail_in x a xs ca) (tail_in x b xs cb) e) d.1,
+)
 
 pub once_names : (names : List FlatName) → is_name_set names ≡ true → StandOnce names
 once_names [] set = tt
@@ -113,9 +115,9 @@ get_at {X} xs x c = at xs c.0 c.1 c.2
 pub once_entries : (es : List EntryValue) → ((i j : ℕ) (a b : EntryValue) → i < j → slice_get es i ≡ Some a → slice_get es j ≡ Some b → a.name ≢ b.name) → StandOnce (map without_transid es)
 once_entries [] once = tt
 once_entries (e ∷ es) once = (
-    λ c. let found = in_map without_transid es (without_transid e) c in once 0 (suc found.1.0) e found.0 (omega arith) refl (get_at es found.0 found.1) (ap (λ (x : EntryValue). x.name) (sym found.2)),
-    once_entries es (λ i j a b below ga gb. once (suc i) (suc j) a b (omega arith) ga gb),
-  )
+  λ c. let found = in_map without_transid es (without_transid e) c in once 0 (suc found.1.0) e found.0 (omega arith) refl (get_at es found.0 found.1) (ap (λ (x : EntryValue). x.name) (sym found.2)),
+  once_entries es (λ i j a b below ga gb. once (suc i) (suc j) a b (omega arith) ga gb),
+)
 
 pub one_once : {X : Type 0} (x : X) → StandOnce (x ∷ [])
 one_once x = (λ c. in_nothing x c, tt)
@@ -206,9 +208,9 @@ module _ {K X : Type 0} {R : K → K → Ordering} (o : IsTotalOrder R) (same : 
 pub once_append : {X : Type 0} (xs ys : List X) → StandOnce xs → StandOnce ys → ((x : X) → Contains xs x → Contains ys x → ⊥) → StandOnce (xs ++ ys)
 once_append [] ys d e apart = e
 once_append (x ∷ xs) ys d e apart = (
-    λ c. elim (Contains-append_cases xs ys x c) [ inl near ↦ d.0 near | inr far ↦ apart x (head_in x xs) far ],
-    once_append xs ys d.1 e (λ y c f. apart y (tail_in x y xs c) f),
-  )
+  λ c. elim (Contains-append_cases xs ys x c) [ inl near ↦ d.0 near | inr far ↦ apart x (head_in x xs) far ],
+  once_append xs ys d.1 e (λ y c f. apart y (tail_in x y xs c) f),
+)
 
 pub once_short : {X : Type 0} (xs : List X) → length xs ≤ 1 → StandOnce xs
 once_short [] short = tt
@@ -242,9 +244,9 @@ fewer {X} (x ∷ xs) ys d f =
 once_with : {X : Type 0} (front : List X) (x : X) (back : List X) → StandOnce (front ++ back) → (Contains (front ++ back) x → ⊥) → StandOnce (front ++ (x ∷ back))
 once_with [] x back d other = (other, d)
 once_with {X} (y ∷ front) x back d other = (
-    λ c. d.0 (not_middle front x back y c (λ same. other (subst (λ (z : X). Contains (y ∷ (front ++ back)) z) (sym same) (head_in y (front ++ back))))),
-    once_with front x back d.1 (λ c. other (tail_in y x (front ++ back) c)),
-  )
+  λ c. d.0 (not_middle front x back y c (λ same. other (subst (λ (z : X). Contains (y ∷ (front ++ back)) z) (sym same) (head_in y (front ++ back))))),
+  once_with front x back d.1 (λ c. other (tail_in y x (front ++ back) c)),
+)
 
 -- a list that has all elements of one in which they stand once, and is no longer, has each once
 once_all : {X : Type 0} (xs ys : List X) → StandOnce xs → ((x : X) → Contains xs x → Contains ys x) → length xs ≡ length ys → StandOnce ys
@@ -260,8 +262,8 @@ once_all {X} (x ∷ xs) ys d f e =
     λ y c. not_middle front x back y (subst (λ (zs : List X). Contains zs y) parts.2 (f y (tail_in x y xs c))) (λ same. d.0 (subst (λ (z : X). Contains xs z) (sym same) c)) in
     let rest = once_all xs (front ++ back) d.1 inside (omega arith) in
     subst StandOnce (sym parts.2) (once_with front x back rest (λ c.
-        let more = fewer (x ∷ xs) (front ++ back) d (λ y q. elim (in_cons x y xs q) [ inl here ↦ subst (λ (z : X). Contains (front ++ back) z) here c | inr there ↦ inside y there ]) in
-        omega arith))
+    let more = fewer (x ∷ xs) (front ++ back) d (λ y q. elim (in_cons x y xs q) [ inl here ↦ subst (λ (z : X). Contains (front ++ back) z) here c | inr there ↦ inside y there ]) in
+    omega arith))
 
 -- the same elements in another order stand once too
 pub once_permuted : {X : Type 0} (xs ys : List X) → StandOnce xs → IsPermutation ys xs → StandOnce ys

@@ -1,10 +1,8 @@
 -- Whether a way leads up from a directory to inode 256.
 use Rattle.std.specs.Prelude.{◌≡◌, ◌≤◌, ◌⊎◌, ℕ, zero, suc, List, [], ◌∷◌, ◌++◌, length, Contains}
-use Rattle.std.proofs.Common.{refl, sym, ap, subst, ◌∙◌, arith, inl, inr}
-use Rattle.std.proofs.lemmas.List.Elements.{Contains-append_right}
+use Rattle.std.proofs.Common.{refl, subst, arith, inl, inr}
 use Rattle.flat_model.specs.Names.{FlatName}
 use Rattle.flat_model.specs.Coherent.{LeadsUp}
-use Rattle.volume_image.proofs.Reaches.{head_in, tail_in}
 use Rattle.volume_image.proofs.Lists.{in_cons, in_nothing}
 use Rattle.image_faults.specs.Faulty.{StandOnce}
 use Rattle.image_faults.specs.Decisions.{map_told, both_told, either_told, same_number, one_in, is_in}

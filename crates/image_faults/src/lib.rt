@@ -5,4 +5,4 @@
 
 mod inodes;
 
-pub use inodes::faultless_items_are_coherent;
+pub use inodes::{faultless_items_are_coherent, first_faulty_is_lowest};
