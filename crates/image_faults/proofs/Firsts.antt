@@ -21,7 +21,7 @@ use Rattle.image_faults.proofs.OfLines.{dir_is_there}
 -- ---- numbers without items
 
 -- a number other than 256 that no item has isn't faulty
-no_fault_elsewhere : (items : List Item) (blocks : Data) (ino : ℕ) → (IsThere items ino → ⊥) → ino ≢ 256 → HasNoFault items blocks ino
+pub no_fault_elsewhere : (items : List Item) (blocks : Data) (ino : ℕ) → (IsThere items ino → ⊥) → ino ≢ 256 → HasNoFault items blocks ino
 no_fault_elsewhere items blocks ino absent other = record {
   number = λ there. absurd (absent there);
   inode = λ there. absurd (absent there);

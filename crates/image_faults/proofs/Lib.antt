@@ -12,3 +12,4 @@ pub mod FromItems
 pub mod FromExtents
 pub mod FromLines
 pub mod Firsts
+pub mod WorkedNumbers

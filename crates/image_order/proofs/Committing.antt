@@ -1,11 +1,10 @@
 -- An image without a first fault stands for the volume that is found, and an image that stands for a volume has none.
 use Rattle.std.proofs.Common.{◌≡◌, ◌≤◌, ◌<◌, ◌+◌, ◌-◌, ◌/◌, ◌++◌, ◌&&◌, ℕ, Bool, true, false, T, cond, List, [], ◌∷◌, length, map, flat_map, Contains, All, IsPermutation, Option, Some, None, Result, Ok, Err, nat_cmp, Ordering, is_lt, refl, sym, ap, subst, ◌∙◌, arith, inl, inr, append-nil, append_assoc, le-ltb, ltb-false}
-use Rattle.std.proofs.lemmas.Bool.{cases_lt}
 use Rattle.std.proofs.lemmas.Option.{slice_get-get_or}
 use Rattle.std.proofs.lemmas.List.Elements.{All-contains}
-use Rattle.std.proofs.lemmas.List.Sorted.{IsPermutation-refl, IsPermutation-sym, IsPermutation-trans, IsPermutation-append_left, IsPermutation-append_right, IsPermutation-append_comm, length_permutation}
+use Rattle.std.proofs.lemmas.List.Sorted.{IsPermutation-refl, IsPermutation-trans, IsPermutation-append_left, IsPermutation-append_right, IsPermutation-append_comm, length_permutation}
 use Rattle.std.specs.Cmp.{nat_cmp_total}
-use Rattle.std.specs.FinMap.{FinMap, get, entries, entries_sorted, from_entries, put, is_sorted, entries-insert, nat_cmp-IsAntisymmetric}
+use Rattle.std.specs.FinMap.{entries, entries_sorted, from_entries, put, is_sorted, entries-insert, nat_cmp-IsAntisymmetric}
 use Rattle.std.specs.FinMap.Entries.{below_all, by_order}
 use Rattle.blk_base.specs.declared.key.Key.{Key}
 use Rattle.blk_base.specs.Address.{IsAllowed}
@@ -13,14 +12,13 @@ use Rattle.blk_base.specs.Bytes.{IsImage}
 use Rattle.blk_base.specs.Leaf.{Item}
 use Rattle.blk_base.specs.Items.{RootValue}
 use Rattle.blk_base.specs.Superblock.{SuperValue, IsSuper}
-use Rattle.format_laws.specs.Superblock.{IsSuper-from_read, super_of-Ok}
-use Rattle.item_laws.proofs.FaultLaws.{item_faultless}
+use Rattle.format_laws.specs.Superblock.{IsSuper-from_read}
 use Rattle.flat_model.specs.Volume.{Subvolume, Volume, bare_subvolume, bare_volume, subvolume_ids}
-use Rattle.flat_model.specs.Coherent.{IsCoherent, IsCoherentVolume}
-use Rattle.volume_image.specs.Tree.{Image, Walked, IsTree, NoneTwice, AreApart, ItemsRise, tree_of}
+use Rattle.flat_model.specs.Coherent.{IsCoherent}
+use Rattle.volume_image.specs.Tree.{Image, Walked, IsTree, NoneTwice}
 use Rattle.volume_image.specs.Roots.{root_want, sub_want, roots_of}
-use Rattle.volume_image.specs.Subvolume.{Data, AreItemsOf, data_addresses}
-use Rattle.volume_image.specs.Stands.{super_block, data_of, free_of, mount_need, IsSubvolumeAt, AreSubvolumesAt, IsCommitted, StandsBy, Stands}
+use Rattle.volume_image.specs.Subvolume.{AreItemsOf, data_addresses}
+use Rattle.volume_image.specs.Stands.{super_block, data_of, free_of, mount_need, AreSubvolumesAt, IsCommitted, Stands}
 use Rattle.volume_image.proofs.Lists.{in_nothing, in_cons, entries_empty}
 use Rattle.volume_image.proofs.Reaches.{head_in, tail_in}
 use Rattle.volume_image.proofs.Rising.{less_from_test}
@@ -28,19 +26,17 @@ use Rattle.volume_image.proofs.Members.{in_map, get_in, in_get}
 use Rattle.volume_image.proofs.Walk.{walked_alone}
 use Rattle.volume_image.proofs.RootItems.{roots_are_read, length-subvolume_ids}
 use Rattle.volume_image.proofs.BareVolumes.{bare_volume_entries}
-use Rattle.volume_image.proofs.OwnKeys.{asked_is_spelled}
 use Rattle.image_faults.specs.Said.{said_sub}
-use Rattle.image_faults.specs.Faulty.{AreReadable, HasData, HasNoFault, StandOnce}
+use Rattle.image_faults.specs.Faulty.{AreReadable, HasData, StandOnce}
 use Rattle.image_faults.specs.Lists.{once_permuted, gives_map}
 use Rattle.image_faults.specs.Lowest.{first_faulty}
-use Rattle.image_faults.proofs.Firsts.{none_is_faulty, none_is_first}
+use Rattle.image_faults.proofs.Firsts.{none_is_faulty}
 use Rattle.image_faults.proofs.FromLines.{are_items, are_coherent}
-use Rattle.image_faults.proofs.OfLines.{is_said, no_fault_of}
-use Rattle.image_order.specs.FirstFault.{ImageFault, BadSuper, BadTree, NoRoom, or_fault, roots_fault, FoundTree, FoundTrees, trees_of, first_item_fault, as_item_fault, first_bad_item, data_after, all_data, incoherent, first_incoherent, Found, volume_in, checked, committed_of, with_room, standing_of}
-use Rattle.image_order.proofs.Steps.{bind_ok, ok_bind, fault_ok, ok_fault, unless_ok, ok_unless, first_none, none_first, not_found, finds_none}
-use Rattle.image_order.proofs.Items.{items_have_none, have_none_faultless, have_none_apart}
-use Rattle.image_order.proofs.Bytes.{Fits, tree_fits}
-use Rattle.image_order.proofs.Reached.{AreFound, FindsTrees, trees_found, found_trees, ReachesData, data_found, found_data}
+use Rattle.image_order.specs.FirstFault.{ImageFault, BadSuper, BadTree, roots_fault, FoundTree, FoundTrees, first_item_fault, as_item_fault, first_bad_item, all_data, incoherent, first_incoherent, Found, volume_in, committed_of, standing_of}
+use Rattle.image_order.proofs.Steps.{bind_ok, fault_ok, unless_ok, first_none, none_first, not_found}
+use Rattle.image_order.proofs.Items.{have_none_faultless, have_none_apart}
+use Rattle.image_order.proofs.Bytes.{tree_fits}
+use Rattle.image_order.proofs.Reached.{AreFound, FindsTrees, trees_found, ReachesData, data_found}
 
 -- ---- reaches in another order
 
@@ -216,14 +212,20 @@ subvolumes_of image super (id ∷ ids) (root ∷ roots) (tree ∷ trees) reach (
     let is = good tree (head_in tree trees) in
     record {
       sub_reach = (near ++ data_addresses tree.items) ++ rest.sub_reach;
-      subvolumes = (near ++ data_addresses tree.items, rest.sub_reach, record {
-        items = tree.items;
-        tree_reach = near;
-        tree = subst (λ (n : ℕ). IsTree image super.blocks (sub_want super n root) tree.items near) (sym is_id) is_tree;
-        same = is.same;
-        allowed = is.allowed;
-        reached = refl;
-      }, rest.subvolumes, refl);
+      subvolumes = (
+        near ++ data_addresses tree.items,
+        rest.sub_reach,
+        record {
+          items = tree.items;
+          tree_reach = near;
+          tree = subst (λ (n : ℕ). IsTree image super.blocks (sub_want super n root) tree.items near) (sym is_id) is_tree;
+          same = is.same;
+          allowed = is.allowed;
+          reached = refl;
+        },
+        rest.subvolumes,
+        refl,
+      );
       same = subst (λ (xs : List ℕ). IsPermutation ((near ++ data_addresses tree.items) ++ rest.sub_reach) (xs ++ (data_addresses tree.items ++ all_data trees))) (sym is_reach)
           (swap_data near (data_addresses tree.items) far (all_data trees) rest.sub_reach rest.same);
     }

@@ -1,9 +1,9 @@
 -- An image that stands for a volume has no first fault, and that volume is found.
-use Rattle.std.proofs.Common.{◌≡◌, ◌≤◌, ◌++◌, ℕ, List, [], ◌∷◌, length, map, Contains, All, IsPermutation, None, Result, Ok, Err, nat_cmp, refl, sym, ap, subst, ◌∙◌, arith, inl, inr, append_assoc, le-ltb}
+use Rattle.std.proofs.Common.{◌≡◌, ◌≤◌, ◌++◌, ℕ, List, [], ◌∷◌, length, map, Contains, All, IsPermutation, None, Ok, nat_cmp, refl, sym, ap, subst, ◌∙◌, inl, inr, append_assoc, le-ltb}
 use Rattle.std.proofs.lemmas.List.Elements.{All-nil, All-append}
 use Rattle.std.proofs.lemmas.List.Sorted.{IsPermutation-refl, IsPermutation-sym, IsPermutation-append_right, length_permutation}
 use Rattle.std.specs.Cmp.{nat_cmp_total}
-use Rattle.std.specs.FinMap.{get, entries, from_entries, nat_cmp-IsAntisymmetric}
+use Rattle.std.specs.FinMap.{entries, from_entries, nat_cmp-IsAntisymmetric}
 use Rattle.blk_base.specs.Address.{IsAllowed}
 use Rattle.blk_base.specs.Leaf.{Item}
 use Rattle.blk_base.specs.Items.{RootValue}
@@ -15,7 +15,7 @@ use Rattle.flat_model.specs.Coherent.{IsCoherent}
 use Rattle.volume_image.specs.Tree.{Image, Walked, IsTree, NoneTwice}
 use Rattle.volume_image.specs.Roots.{root_want, sub_want}
 use Rattle.volume_image.specs.Subvolume.{AreItemsOf, data_addresses}
-use Rattle.volume_image.specs.Stands.{super_block, data_of, free_of, mount_need, IsSubvolumeAt, AreSubvolumesAt, IsCommitted, StandsBy, Stands}
+use Rattle.volume_image.specs.Stands.{super_block, data_of, free_of, mount_need, AreSubvolumesAt, IsCommitted, Stands}
 use Rattle.volume_image.proofs.Lists.{in_nothing, in_cons}
 use Rattle.volume_image.proofs.Reaches.{head_in, tail_in, none_twice_parts}
 use Rattle.volume_image.proofs.Members.{in_get}
@@ -25,7 +25,7 @@ use Rattle.volume_image.proofs.OwnKeys.{asked_is_spelled}
 use Rattle.image_faults.specs.Lowest.{first_faulty}
 use Rattle.image_faults.proofs.Firsts.{none_is_first}
 use Rattle.image_faults.proofs.OfLines.{is_said, no_fault_of}
-use Rattle.image_order.specs.FirstFault.{ImageFault, BadSuper, BadTree, NoRoom, roots_fault, FoundTree, FoundTrees, trees_of, first_item_fault, data_after, all_data, Found, volume_in, checked, committed_of, with_room, standing_of}
+use Rattle.image_order.specs.FirstFault.{BadSuper, BadTree, roots_fault, FoundTree, FoundTrees, first_item_fault, all_data, Found, volume_in, committed_of, with_room, standing_of}
 use Rattle.image_order.proofs.Steps.{ok_bind, ok_fault, ok_unless, finds_none}
 use Rattle.image_order.proofs.Items.{items_have_none}
 use Rattle.image_order.proofs.Reached.{AreFound, found_trees, found_data}
@@ -90,7 +90,7 @@ pub record Finds (image : Image) (super : SuperValue) (volume : Volume) (reach :
   pub volume_is : volume_in image found ≡ volume
   pub long : length found.reached ≡ length reach
 
-finds : (image : Image) (super : SuperValue) (volume : Volume) (reach : List ℕ) → IsSuper (super_block image) (length image) super → IsCommitted image super volume reach → Finds image super volume reach
+pub finds : (image : Image) (super : SuperValue) (volume : Volume) (reach : List ℕ) → IsSuper (super_block image) (length image) super → IsCommitted image super volume reach → Finds image super volume reach
 unfolding committed_of
 finds image super volume reach is_super is =
     let gives = gives_trees image super is.roots (entries volume) is.sub_reach is.subvolumes (λ e c. is.coherent e.0 e.1 (in_get nat_cmp_total nat_cmp-IsAntisymmetric volume e.0 e.1 c)) in
@@ -123,8 +123,7 @@ is_found image volume stands =
     let by = stands.by_reach in
     let is = finds image by.super volume stands.reach by.spelled by.committed in
     let room : mount_need ≤ free_of is.found.super.blocks (length is.found.reached) =
-    subst (λ (n : ℕ). mount_need ≤ free_of is.found.super.blocks n) (sym is.long) (subst (λ (s : SuperValue). mount_need ≤ free_of s.blocks (length stands.reach)) (sym is.super_is) by.room) in
-    (
+    subst (λ (n : ℕ). mount_need ≤ free_of is.found.super.blocks n) (sym is.long) (subst (λ (s : SuperValue). mount_need ≤ free_of s.blocks (length stands.reach)) (sym is.super_is) by.room) in (
       is.found,
       ok_bind _ with_room is.found is.found is.is (finds_none _ _ _ (le-ltb (free_of is.found.super.blocks (length is.found.reached)) mount_need room)),
       ap (λ (s : SuperValue). s.log_root) is.super_is ∙ by.no_log,

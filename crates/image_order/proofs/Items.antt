@@ -1,12 +1,12 @@
 -- Items have no fault exactly where none has one of its own and no extent begins inside another of its file.
 use Rattle.std.proofs.Common.{◌≡◌, ◌≤◌, ◌<◌, ◌+◌, ◌&&◌, ◌==◌, ◌⊎◌, ℕ, Bool, true, false, cond, nat_lt, nat_cmp, List, [], ◌∷◌, Contains, Option, Some, None, Ordering, Less, Equal, Greater, refl, sym, ap, subst, ◌∙◌, arith, inl, inr, le-ltb, ltb-false}
-use Rattle.std.proofs.lemmas.Bool.{ltb-true, and_parts, and_from, eqb-true, eq-eqb, cases_Bool, cases_order, false_from_ne_true}
+use Rattle.std.proofs.lemmas.Bool.{ltb-true, and_parts, eqb-true, eq-eqb}
 use Rattle.std.specs.FinMap.{nat_cmp-IsAntisymmetric}
 use Rattle.std.specs.Ordering.{ordering_then}
 use Rattle.blk_base.specs.declared.key.Key.{Key}
 use Rattle.blk_base.specs.declared.fault.ItemFault.{ItemFault}
 use Rattle.blk_base.specs.declared.fault.ItemFault.TheVariants.{Overlap}
-use Rattle.blk_base.specs.Keys.{KeyBelow, key_cmp, extent_data}
+use Rattle.blk_base.specs.Keys.{KeyBelow, extent_data}
 use Rattle.blk_base.specs.Leaf.{Item}
 use Rattle.blk_base.specs.ItemFaults.{item_fault}
 use Rattle.volume_image.specs.Tree.{ItemsRise}
@@ -14,17 +14,9 @@ use Rattle.volume_image.specs.Subvolume.{make_key, extent_len}
 use Rattle.volume_image.proofs.Lists.{in_nothing, in_cons}
 use Rattle.volume_image.proofs.Reaches.{head_in, tail_in}
 use Rattle.image_faults.proofs.Rising.{head_below, rise_tail}
-use Rattle.image_order.specs.FirstFault.{first_of, is_overlap, overlap_after, with_key, first_item_fault}
+use Rattle.image_order.specs.FirstFault.{is_overlap, overlap_after, with_key, first_item_fault}
+use Rattle.image_order.specs.InLeaf.{AreFaultless, AreApartExtents}
 use Rattle.image_order.proofs.Steps.{first_none, none_first}
-
--- no extent begins below the end of another of its file
-abbrev pub AreApart : List Item → Type 0
-AreApart items = (ino one two : ℕ) (first second : List ℕ) → Contains items (make_key ino extent_data one, first) → Contains items (make_key ino extent_data two, second) → one < two
-    → one + extent_len (make_key ino extent_data one) first ≤ two
-
--- no item has a fault of its own
-abbrev pub AreFaultless : List Item → Type 0
-AreFaultless items = (key : Key) (bytes : List ℕ) → Contains items (key, bytes) → item_fault key bytes ≡ None
 
 -- ---- keys
 
@@ -44,10 +36,13 @@ nat_less a b e = go (nat_lt a b) refl (a == b) e
 below_parts : (a b : Key) → KeyBelow a b → (a.objectid < b.objectid) ⊎ ((a.objectid ≡ b.objectid) × ((a.kind < b.kind) ⊎ ((a.kind ≡ b.kind) × (a.offset < b.offset))))
 below_parts a b below = elim (then_less (nat_cmp a.objectid b.objectid) (ordering_then (nat_cmp a.kind b.kind) (nat_cmp a.offset b.offset)) below) [
   | inl less ↦ inl (nat_less a.objectid b.objectid less)
-  | inr same ↦ inr (nat_cmp-IsAntisymmetric a.objectid b.objectid same.0, elim (then_less (nat_cmp a.kind b.kind) (nat_cmp a.offset b.offset) same.1) [
-    | inl less ↦ inl (nat_less a.kind b.kind less)
-    | inr same ↦ inr (nat_cmp-IsAntisymmetric a.kind b.kind same.0, nat_less a.offset b.offset same.1)
-  ])
+  | inr same ↦ inr (
+    nat_cmp-IsAntisymmetric a.objectid b.objectid same.0,
+    elim (then_less (nat_cmp a.kind b.kind) (nat_cmp a.offset b.offset) same.1) [
+      | inl less ↦ inl (nat_less a.kind b.kind less)
+      | inr same ↦ inr (nat_cmp-IsAntisymmetric a.kind b.kind same.0, nat_less a.offset b.offset same.1)
+    ],
+  )
 ]
 
 -- a key between two extents of a file is one too
@@ -121,7 +116,7 @@ faultless_from before (item ∷ items) e key bytes c =
       | inr there ↦ faultless_from (Some item) items parts.1 key bytes there
     ]
 
-apart_from : (before : Option Item) (items : List Item) → ItemsRise items → first_item_fault before items ≡ None → AreApart items
+apart_from : (before : Option Item) (items : List Item) → ItemsRise items → first_item_fault before items ≡ None → AreApartExtents items
 apart_from before [] rise e ino one two first second c d less = absurd (in_nothing (make_key ino extent_data one, first) c)
 apart_from before (item ∷ items) rise e ino one two first second c d less =
     let parts = first_none _ _ e in
@@ -155,27 +150,27 @@ apart_from before (item ∷ items) rise e ino one two first second c d less =
         ]
 
 -- items without faults
-none_from : (items : List Item) → ItemsRise items → AreFaultless items → AreApart items → (before : Option Item) → ((item : Item) → Contains items item → (o : Item) → before ≡ Some o → (rest : List Item) → items ≡ item ∷ rest → overlap_after before item ≡ None) → first_item_fault before items ≡ None
+none_from : (items : List Item) → ItemsRise items → AreFaultless items → AreApartExtents items → (before : Option Item) → ((item : Item) → Contains items item → (o : Item) → before ≡ Some o → (rest : List Item) → items ≡ item ∷ rest → overlap_after before item ≡ None) → first_item_fault before items ≡ None
 none_from [] rise faultless apart before front = refl
 none_from (item ∷ items) rise faultless apart before front =
     none_first _ _ (ap (with_key item.0) (none_first _ _ (faultless item.0 item.1 (head_in item items)) (at_front before refl)))
     (none_from items (rise_tail item items rise) (λ key bytes c. faultless key bytes (tail_in item (key, bytes) items c))
     (λ ino one two first second c d. apart ino one two first second (tail_in item (make_key ino extent_data one, first) items c) (tail_in item (make_key ino extent_data two, second) items d)) (Some item)
     (λ next c o is rest same.
-        overlap_none item next (head_below item items rise next c)
-        (λ ino one two here there less.
-            apart ino one two item.1 next.1 (subst (λ (k : Key). Contains (item ∷ items) (k, item.1)) here (head_in item items)) (subst (λ (k : Key). Contains (item ∷ items) (k, next.1)) there (tail_in item next items c)) less)))
+    overlap_none item next (head_below item items rise next c)
+    (λ ino one two here there less.
+    apart ino one two item.1 next.1 (subst (λ (k : Key). Contains (item ∷ items) (k, item.1)) here (head_in item items)) (subst (λ (k : Key). Contains (item ∷ items) (k, next.1)) there (tail_in item next items c)) less)))
   where
     at_front : (o : Option Item) → before ≡ o → overlap_after before item ≡ None
     at_front None e = ap (λ b. overlap_after b item) e
     at_front (Some other) e = front item (head_in item items) other e items refl
 
 -- Rising items have no first fault exactly where none has one of its own and their extents are apart.
-pub items_have_none : (items : List Item) → ItemsRise items → AreFaultless items → AreApart items → first_item_fault None items ≡ None
+pub items_have_none : (items : List Item) → ItemsRise items → AreFaultless items → AreApartExtents items → first_item_fault None items ≡ None
 items_have_none items rise faultless apart = none_from items rise faultless apart None (λ item c o e rest same. absurd cc)
 
 pub have_none_faultless : (items : List Item) → first_item_fault None items ≡ None → AreFaultless items
 have_none_faultless items e = faultless_from None items e
 
-pub have_none_apart : (items : List Item) → ItemsRise items → first_item_fault None items ≡ None → AreApart items
+pub have_none_apart : (items : List Item) → ItemsRise items → first_item_fault None items ≡ None → AreApartExtents items
 have_none_apart items rise e = apart_from None items rise e

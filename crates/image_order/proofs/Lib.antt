@@ -4,3 +4,4 @@ pub mod Bytes
 pub mod Reached
 pub mod Committing
 pub mod Finding
+pub mod Leaves

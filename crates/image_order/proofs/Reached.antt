@@ -1,16 +1,16 @@
 -- The trees of the subvolumes one after the other, and their data behind them: each address is reached once.
-use Rattle.std.proofs.Common.{◌≡◌, ◌≤◌, ◌++◌, ℕ, Bool, true, false, List, [], ◌∷◌, length, map, flat_map, Contains, All, IsPermutation, Result, Ok, Err, refl, sym, ap, subst, ◌∙◌, arith, inl, inr, append-nil, append_assoc}
+use Rattle.std.proofs.Common.{◌≡◌, ◌++◌, ℕ, List, [], ◌∷◌, length, Contains, All, Result, Ok, refl, sym, ap, subst, ◌∙◌, arith, inl, inr, append-nil, append_assoc}
 use Rattle.std.proofs.lemmas.List.Elements.{All-nil, All-cons, All-head, All-tail}
-use Rattle.blk_base.specs.Address.{IsAllowed, is_allowed}
+use Rattle.blk_base.specs.Address.{IsAllowed}
 use Rattle.blk_base.specs.Items.{RootValue}
 use Rattle.blk_base.specs.Superblock.{SuperValue}
 use Rattle.format_laws.specs.Superblock.{IsAllowed-from_test, is_allowed-true}
-use Rattle.volume_image.specs.Tree.{Image, Walked, IsTree, NoneTwice, AreApart, HasWalked, tree_of, was_reached}
+use Rattle.volume_image.specs.Tree.{Image, Walked, IsTree, NoneTwice}
 use Rattle.volume_image.specs.Roots.{sub_want}
 use Rattle.volume_image.proofs.Lists.{in_nothing, in_cons}
 use Rattle.volume_image.proofs.Reaches.{head_in, not_reached, not_in, none_twice_joined, none_twice_parts}
 use Rattle.volume_image.proofs.Walk.{walked_lem}
-use Rattle.image_order.specs.FirstFault.{ImageFault, BadTree, ◌>>=◌, or_fault, FoundTree, FoundTrees, with_tree, trees_of, data_after}
+use Rattle.image_order.specs.FirstFault.{ImageFault, BadTree, FoundTree, FoundTrees, with_tree, trees_of, data_after}
 use Rattle.image_order.proofs.Steps.{bind_ok, ok_bind, fault_ok, ok_fault, passed, passes, not_found, finds_none}
 
 -- each of these is the tree of its root; the reaches stand one behind the other

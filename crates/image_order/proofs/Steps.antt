@@ -1,5 +1,5 @@
 -- Steps that went well.
-use Rattle.std.proofs.Common.{◌≡◌, Bool, true, false, cond, not, Option, Some, None, Result, Ok, Err, refl, sym, ap, ◌∙◌}
+use Rattle.std.proofs.Common.{◌≡◌, Bool, true, false, cond, not, Option, Some, None, Result, Ok, Err, refl, ap, ◌∙◌}
 use Rattle.image_order.specs.FirstFault.{ImageFault, ◌>>=◌, or_fault, first_of, unless}
 
 same_ok : {A E : Type 0} (x y : A) → ◌≡◌ {A = Result A E} (Ok x) (Ok y) → x ≡ y

@@ -1,10 +1,8 @@
 -- Which fault an image has first, in the order of a mount: the superblock, the root tree, its items, the trees of the subvolumes, their items, the data blocks,
 -- the inodes, and the room.
-use Rattle.std.specs.Prelude.{◌≡◌, ◌+◌, ◌&&◌, not, nat_lt, ◌==◌, ℕ, zero, suc, Bool, List, [], ◌∷◌, ◌++◌, length, map, Option, Some, None, unwrap_or, Result, Ok, Err, if◌then◌else◌}
+use Rattle.std.specs.Prelude.{◌+◌, ◌&&◌, not, nat_lt, ◌==◌, ℕ, zero, suc, Bool, List, [], ◌∷◌, ◌++◌, length, map, Option, Some, None, unwrap_or, Result, Ok, Err, if◌then◌else◌}
 use Rattle.std.specs.List.{flat_map, list_any}
-use Rattle.std.specs.Ordering.{nat_cmp}
 use Rattle.std.specs.FinMap.{from_entries}
-use Rattle.blk_base.specs.declared.fault.BlockFault.{BlockFault}
 use Rattle.blk_base.specs.declared.fault.SuperFault.{SuperFault}
 use Rattle.blk_base.specs.declared.fault.ItemFault.{ItemFault}
 use Rattle.blk_base.specs.declared.fault.ItemFault.TheVariants.{Overlap}
@@ -13,14 +11,14 @@ use Rattle.blk_base.specs.declared.key.Key.{Key}
 use Rattle.blk_base.specs.declared.key.Want.{Want}
 use Rattle.blk_base.specs.Address.{is_allowed}
 use Rattle.blk_base.specs.Keys.{extent_data}
-use Rattle.blk_base.specs.Leaf.{Item, Pointer, leaf_of, node_of}
+use Rattle.blk_base.specs.Leaf.{Item, leaf_of, node_of}
 use Rattle.blk_base.specs.Items.{RootValue}
 use Rattle.blk_base.specs.ItemFaults.{item_fault}
 use Rattle.blk_base.specs.Superblock.{SuperValue, super_of}
-use Rattle.flat_model.specs.Volume.{Subvolume, Volume, subvolume_ids}
+use Rattle.flat_model.specs.Volume.{Volume, subvolume_ids}
 use Rattle.volume_image.specs.declared.fault.LoadFault.{LoadFault}
 use Rattle.volume_image.specs.declared.fault.LoadFault.TheVariants.{Outside, Twice}
-use Rattle.volume_image.specs.Tree.{Image, Walked, tree_of, block_of, child_want, was_reached, key_eq}
+use Rattle.volume_image.specs.Tree.{Image, tree_of, block_of, child_want, was_reached, key_eq}
 use Rattle.volume_image.specs.Roots.{RootsFault, OtherPair, NoRoot, roots_of, root_want, sub_want}
 use Rattle.volume_image.specs.Subvolume.{extent_len, data_addresses}
 use Rattle.volume_image.specs.Stands.{super_block, data_of, free_of, mount_need}

@@ -3,6 +3,8 @@
 //! body.
 #![tactic(auto)]
 
+mod checks;
 mod standing;
 
-pub use standing::images_without_fault_stand;
+pub use checks::{data_are_checked, items_are_checked, items_stand_in_named_leaves};
+pub use standing::{images_without_fault_commit, images_without_fault_stand};
