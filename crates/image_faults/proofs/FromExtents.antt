@@ -39,7 +39,7 @@ module _ (items : List Item) (blocks : Data) (ok : AreReadable items) where
   run_of ino number block item = extent_from (make_key ino extent_data item.offset) item.bytes (Regular item.at item.from item.len) item.read
 
   -- a block of a file is in one extent
-  behind : (ino number : ℕ) (b c : List ℕ) (one : BlockItem items blocks ino number b) (two : BlockItem items blocks ino number c) → one.offset < two.offset → ⊥
+  pub behind : (ino number : ℕ) (b c : List ℕ) (one : BlockItem items blocks ino number b) (two : BlockItem items blocks ino number c) → one.offset < two.offset → ⊥
   behind ino number b c one two less =
       let is = run_of ino number b one in
       let is' = run_of ino number c two in

@@ -13,3 +13,4 @@ pub mod FromExtents
 pub mod FromLines
 pub mod Firsts
 pub mod WorkedNumbers
+pub mod ExtentSums

@@ -182,7 +182,7 @@ in_run_blocks blocks (suc count) number at (suc i) block below is =
     (subst (λ (n : ℕ). Contains {X = ℕ × List ℕ} (run_blocks blocks (number + 1) (at + 4096) count) (n, block)) (let e : (number + 1) + i ≡ number + suc i = omega arith in e)
     (in_run_blocks blocks count (number + 1) (at + 4096) i block (omega arith) (ap blocks (let e : (at + 4096) + 4096 * i ≡ at + 4096 * suc i = omega arith in e) ∙ is)))
 
-from_run_blocks : (blocks : Data) (count number at : ℕ) (n : ℕ) (block : List ℕ) → Contains (run_blocks blocks number at count) (n, block) → (i : ℕ) × (i < count) × (n ≡ number + i) × (blocks (at + 4096 * i) ≡ Some block)
+pub from_run_blocks : (blocks : Data) (count number at : ℕ) (n : ℕ) (block : List ℕ) → Contains (run_blocks blocks number at count) (n, block) → (i : ℕ) × (i < count) × (n ≡ number + i) × (blocks (at + 4096 * i) ≡ Some block)
 from_run_blocks blocks zero number at n block c = absurd (in_nothing (n, block) c)
 from_run_blocks blocks (suc count) number at n block c = elim (Contains-append_cases (block_there number (blocks at)) (run_blocks blocks (number + 1) (at + 4096) count) (n, block) c) [
   | inl here ↦ first (blocks at) refl here

@@ -5,3 +5,4 @@ pub mod Decisions
 pub mod Ways
 pub mod Decided
 pub mod Lowest
+pub mod Counts
