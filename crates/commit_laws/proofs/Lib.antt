@@ -7,4 +7,3 @@ pub mod Sane
 pub mod Reaching
 pub mod Going
 pub mod Covered
-pub mod Promises

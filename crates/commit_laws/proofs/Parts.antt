@@ -77,14 +77,14 @@ fewer_stands failures later log p some stands = record {
 }
 
 -- a turn that was kept isn't the caller's
-root_without_apart : (o : Option RootCommit) (caller : ℕ) (commit : RootCommit) → root_without o caller ≡ Some commit → commit.holder ≢ caller
+pub root_without_apart : (o : Option RootCommit) (caller : ℕ) (commit : RootCommit) → root_without o caller ≡ Some commit → commit.holder ≢ caller
 root_without_apart None caller commit e same = some_none commit (sym e)
 root_without_apart (Some own) caller commit e same = elim (nat_eq own.holder caller) as (λ b. nat_eq own.holder caller ≡ b → cond b None (Some own) ≡ Some commit → ⊥) [
   | true ↦ λ at x. some_none commit (sym x)
   | false ↦ λ at x. true≢false (sym (eq-eqb own.holder caller (ap (λ (c : RootCommit). c.holder) (some_same own commit x) ∙ same)) ∙ at)
 ] refl e
 
-full_without_apart : (o : Option FullCommit) (caller : ℕ) (commit : FullCommit) → full_without o caller ≡ Some commit → commit.holder ≢ caller
+pub full_without_apart : (o : Option FullCommit) (caller : ℕ) (commit : FullCommit) → full_without o caller ≡ Some commit → commit.holder ≢ caller
 full_without_apart None caller commit e same = some_none commit (sym e)
 full_without_apart (Some own) caller commit e same = elim (nat_eq own.holder caller) as (λ b. nat_eq own.holder caller ≡ b → cond b None (Some own) ≡ Some commit → ⊥) [
   | true ↦ λ at x. some_none commit (sym x)

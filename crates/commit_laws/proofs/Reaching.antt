@@ -39,6 +39,7 @@ pub record Known (state : State) : Type 0 where
   pub taken : (id : ℕ) (log : SubLog) (number : ℕ) → HasLog state id log → number_taken state.root id ≡ Some number → IsUncovered log number
   pub full_alone : (commit : FullCommit) → state.full ≡ Some commit → (state.root ≡ None) × ((id : ℕ) (log : SubLog) → HasLog state id log → log.slots ≡ [])
   pub sealed_there : (commit : FullCommit) → state.full ≡ Some commit → (id : ℕ) (log : SubLog) → HasLog state id log → (sub : Subvolume) × (sub_sealed state.full id ≡ Some sub)
+  pub since : (commit : FullCommit) → state.full ≡ Some commit → state.committed_at ≤ commit.point
   pub sound : IsSoundVolume state.current
 
 known_from : (volume : Volume) → IsCoherentVolume volume → (history : List Operated) (tried : List Volume) (state : State) → Holds volume history tried state → Known state
@@ -47,6 +48,7 @@ known_from volume coherent history tried state holds = record {
   taken = holds.root;
   full_alone = λ commit runs. let f = holds.full commit runs in (f.no_root, f.no_slots);
   sealed_there = λ commit runs id log has. let sub = sub_at volume coherent history tried state holds id log commit.point has in (sub.0, ap (λ o. sub_sealed o id) runs ∙ ap (λ v. get v id) (holds.full commit runs).is ∙ sub.1);
+  since = λ commit runs. (holds.full commit runs).since;
   sound = subst IsSoundVolume (sym holds.current) (after_all_sound (mounted volume) (mounted_sound volume coherent) history holds.legal);
 }
 
@@ -187,10 +189,15 @@ module _ (state : State) (calls : ℕ → Call) (e : Event) where
   other_call : (caller : ℕ) → caller ≢ caller_of e → calls_after state calls e caller ≡ after_other state caller (calls caller) e
   other_call caller other = ap (λ b. cond b (after_own state caller (calls caller) e) (after_other state caller (calls caller) e)) (ne_eqb caller (caller_of e) other)
 
+  -- what it makes of its caller's role, and of the others'
+  pub call_acts : IsDone state (caller_of e) (duty state (calls (caller_of e))) e → Acts e (role_of (calls (caller_of e))) (role_of (calls_after state calls e (caller_of e)))
+  call_acts does = subst (λ c. Acts e (role_of (calls (caller_of e))) (role_of c)) (sym own_call) (role_acts state (caller_of e) (calls (caller_of e)) e does)
+
+  pub call_others : (caller : ℕ) → caller ≢ caller_of e → role_of (calls_after state calls e caller) ≡ other_role state caller e (role_of (calls caller))
+  call_others caller other = ap role_of (other_call caller other) ∙ role_other state caller (calls caller) e
+
   pub step_stands : Known state → Stands state (roles_of calls) → MayCome state e → IsDone state (caller_of e) (duty state (calls (caller_of e))) e → Stands (after state e) (roles_of (calls_after state calls e))
-  step_stands known stands may does = event_stands state (roles_of calls) (roles_of (calls_after state calls e)) stands known e may
-      (subst (λ c. Acts e (role_of (calls (caller_of e))) (role_of c)) (sym own_call) (role_acts state (caller_of e) (calls (caller_of e)) e does))
-      (λ caller other. ap role_of (other_call caller other) ∙ role_other state caller (calls caller) e)
+  step_stands known stands may does = event_stands state (roles_of calls) (roles_of (calls_after state calls e)) stands known e may (call_acts does) call_others
 
   pub step_sane : ((caller : ℕ) → IsSane (calls caller)) → MayCome state e → IsDone state (caller_of e) (duty state (calls (caller_of e))) e → (caller : ℕ) → IsSane (calls_after state calls e caller)
   step_sane sane may does caller = elim (cases_eq caller (caller_of e)) [

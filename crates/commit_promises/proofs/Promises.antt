@@ -25,7 +25,7 @@ use Rattle.commit_history.specs.Legal.{MayCome, MayLog, IsLegal, IsLegalFrom, Ho
 use Rattle.commit_history.specs.Calls.{Part, Unsealed, Sealed, Written, InRoot, GaveUp, Stage, Ended, WasShort, HasTicket, Commits, Syncs, Call, no_call, answer_of, asked, covered_by, is_covered_by_root, is_covered_by_full, after_own, after_other, caller_of, call_after, call_after_all, call_of, Begins, EndsPart, EndsRoot, SealsSub, SealsRoot, GivesUp, Asks, is_stopped, is_open_number, want_duty, duty, IsDone, Operates, Refuses, Logs, AsksFirst, PartWritten, PartGivenUp, PartFailed, RootWritten, RootFailed, FullWritten, FullFailed, SealsPart, SealsLogs, SealsVolume, GivesSlotUp, AsksForFull, FollowsRules, IsRuled}
 use Rattle.commit_history.proofs.LogNumbers.{log_before}
 use Rattle.commit_history.proofs.StateHolding.{either}
-use Rattle.commit_laws.specs.Answers.{is_durable, number_given, events_by, with_step, IsStillCall}
+use Rattle.commit_promises.specs.Answered.{is_durable, number_given, events_by, HasAnswered}
 use Rattle.commit_laws.proofs.Roles.{Holds, role_of}
 use Rattle.commit_laws.proofs.Standing.{Stands}
 use Rattle.commit_laws.proofs.Sane.{IsSane}
@@ -306,7 +306,7 @@ covered_events b by call = at call.cover
     at covers.Root = refl
     at covers.Full = refl
 
-other_events : (state : State) (caller : ℕ) (call : Call) (e : Event) → (after_other state caller call e).events ≡ call.events
+pub other_events : (state : State) (caller : ℕ) (call : Call) (e : Event) → (after_other state caller call e).events ≡ call.events
 other_events state caller call (event.RootDone by) = covered_events (is_covered_by_root state call.stage) covers.Root call
 other_events state caller call (event.FullDone by) = covered_events (is_covered_by_full state caller call.stage) covers.Full call
 other_events state caller call (event.Op by op again end indexes) = refl
@@ -321,7 +321,7 @@ other_events state caller call (event.Failed by turn tried) = refl
 other_events state caller call (event.GiveUp by sub number) = refl
 
 -- an event of its own is the first of a call, or one more
-own_events : (state : State) (caller : ℕ) (call : Call) (e : Event) → ((after_own state caller call e).events ≡ 1) ⊎ ((after_own state caller call e).events ≡ call.events + 1)
+pub own_events : (state : State) (caller : ℕ) (call : Call) (e : Event) → ((after_own state caller call e).events ≡ 1) ⊎ ((after_own state caller call e).events ≡ call.events + 1)
 own_events state caller call (event.Op by op true end indexes) = inr refl
 own_events state caller call (event.Op by op false end indexes) = inl refl
 own_events state caller call (event.Refused by target answer) = inl refl
@@ -355,8 +355,11 @@ pub record Continues (volume : Volume) (state : State) (calls : ℕ → Call) (e
   pub legal : IsLegalFrom state events
   pub follows : FollowsRules state calls events
 
+pub starts : (volume : Volume) → IsCoherentVolume volume → (events : List Event) → IsLegal volume events → IsRuled volume events → Continues volume (mounted_state volume) (λ c. no_call) events
+starts volume coherent events legal ruled = record { reached = record { past = []; legal = tt; is = refl }; stands = mounted_stands volume coherent; sane = λ c. refl; legal = legal; follows = ruled }
+
 module _ (volume : Volume) (coherent : IsCoherentVolume volume) where
-  one_further : (state : State) (calls : ℕ → Call) (e : Event) (events : List Event) → Continues volume state calls (e ∷ events) → Continues volume (after state e) (calls_after state calls e) events
+  pub one_further : (state : State) (calls : ℕ → Call) (e : Event) (events : List Event) → Continues volume state calls (e ∷ events) → Continues volume (after state e) (calls_after state calls e) events
   one_further state calls e events on = record {
     reached = reached_more volume state e on.reached on.legal.0;
     stands = step_stands state calls e (known volume coherent state on.reached) on.stands on.legal.0 on.follows.0;
@@ -365,15 +368,15 @@ module _ (volume : Volume) (coherent : IsCoherentVolume volume) where
     follows = on.follows.1;
   }
 
-  further : (front back : List Event) (state : State) (calls : ℕ → Call) → Continues volume state calls (front ++ back) → Continues volume (after_events state front) (λ caller. call_after_all state caller (calls caller) front) back
+  pub further : (front back : List Event) (state : State) (calls : ℕ → Call) → Continues volume state calls (front ++ back) → Continues volume (after_events state front) (λ caller. call_after_all state caller (calls caller) front) back
   further [] back state calls on = on
   further (e ∷ front) back state calls on = further front back (after state e) (calls_after state calls e) (one_further state calls e (front ++ back) on)
 
-  events_split : (front back : List Event) (state : State) → after_events state (front ++ back) ≡ after_events (after_events state front) back
+  pub events_split : (front back : List Event) (state : State) → after_events state (front ++ back) ≡ after_events (after_events state front) back
   events_split [] back state = refl
   events_split (e ∷ front) back state = events_split front back (after state e)
 
-  call_split : (front back : List Event) (state : State) (caller : ℕ) (call : Call) → call_after_all state caller call (front ++ back) ≡ call_after_all (after_events state front) caller (call_after_all state caller call front) back
+  pub call_split : (front back : List Event) (state : State) (caller : ℕ) (call : Call) → call_after_all state caller call (front ++ back) ≡ call_after_all (after_events state front) caller (call_after_all state caller call front) back
   call_split [] back state caller call = refl
   call_split (e ∷ front) back state caller call = call_split front back (after state e) caller (call_after state caller call e)
 
@@ -446,19 +449,26 @@ module _ (volume : Volume) (coherent : IsCoherentVolume volume) where
         stepped (logged.Ticket number) run = (refl, refl, inl (contains_head (synced old caller state.point ino.0 datasync (Some number)) old.waiting))
         stepped (logged.Full reason) run = inl (contains_head (synced old caller state.point ino.0 datasync None) old.waiting)
 
-    pub acknowledged_once_answered : (front back : List Event) (end : Logged) (old new : SubLog) (answer : Answer) → IsLegal volume (with_step front caller sub ino end datasync back) → IsRuled volume (with_step front caller sub ino end datasync back)
-        → IsStillCall volume (with_step front caller sub ino end datasync back) caller back → answer_of (call_of volume (with_step front caller sub ino end datasync back) caller) ≡ Some answer → is_durable answer ≡ true
-        → HasLog (state_of volume front) sub.0 old → HasLog (state_of volume (with_step front caller sub ino end datasync back)) sub.0 new → Contains new.acknowledged (synced old caller (state_of volume front).point ino.0 datasync (number_given end))
-    acknowledged_once_answered front back end old new answer legal ruled still is durable has there =
-        let start : Continues volume (mounted_state volume) (λ c. no_call) (with_step front caller sub ino end datasync back) = record { reached = record { past = []; legal = tt; is = refl }; stands = mounted_stands volume coherent; sane = λ c. refl; legal = legal; follows = ruled } in
+    pub acknowledged_once_answered : (front back : List Event) (end : Logged) (old new : SubLog) (answer : Answer) → HasAnswered volume front (event.Log caller sub ino end datasync) back answer → is_durable answer ≡ true
+        → HasLog (state_of volume front) sub.0 old → HasLog (state_of volume (front ++ event.Log caller sub ino end datasync ∷ back)) sub.0 new → Contains new.acknowledged (synced old caller (state_of volume front).point ino.0 datasync (number_given end))
+    acknowledged_once_answered front back end old new answer has_answered durable has there =
         let step : Event = event.Log caller sub ino end datasync in
+        let start : Continues volume (mounted_state volume) (λ c. no_call) (front ++ step ∷ back) = starts volume coherent (front ++ step ∷ back) has_answered.legal has_answered.ruled in
         let state : State = state_of volume front in
         let calls : ℕ → Call = λ c. call_after_all (mounted_state volume) c no_call front in
         let on : Continues volume state calls (step ∷ back) = further front (step ∷ back) (mounted_state volume) (λ c. no_call) start in
         let fsync : Synced = synced old caller state.point ino.0 datasync (number_given end) in
         let begun : calls_after state calls step caller ≡ after_own state caller (calls caller) step = ap (λ b. cond b (after_own state caller (calls caller) step) (after_other state caller (calls caller) step)) (eq-eqb caller caller refl) in
-        let split : call_of volume (with_step front caller sub ino end datasync back) caller ≡ call_after_all (after state step) caller (calls_after state calls step caller) back = call_split front (step ∷ back) (mounted_state volume) caller no_call in
+        let split : call_of volume (front ++ step ∷ back) caller ≡ call_after_all (after state step) caller (calls_after state calls step caller) back = call_split front (step ∷ back) (mounted_state volume) caller no_call in
+        let still = has_answered.still in
         let promise = all_kept sub.0 fsync back (after state step) (calls_after state calls step) 0 (one_further state calls step back on)
         (λ log at one. subst (Promise sub.0 log fsync) (sym begun) (begun_promise state (calls caller) end old has on.legal.0 log at))
         new (subst (λ s. HasLog s sub.0 new) (events_split front (step ∷ back) (mounted_state volume)) there) (let e = ap (λ (c : Call). c.events) split in omega (arith, e, still)) in
-        promise_kept sub.0 new fsync (call_after_all (after state step) caller (calls_after state calls step caller) back) answer promise (ap answer_of (sym split) ∙ is) durable
+        promise_kept sub.0 new fsync (call_after_all (after state step) caller (calls_after state calls step caller) back) answer promise (ap answer_of (sym split) ∙ has_answered.answered) durable
+
+    -- the log of the step
+    pub log_of_step : (front back : List Event) (end : Logged) (answer : Answer) → HasAnswered volume front (event.Log caller sub ino end datasync) back answer → (old : SubLog) × HasLog (state_of volume front) sub.0 old
+    log_of_step front back end answer has_answered =
+        let step : Event = event.Log caller sub ino end datasync in
+        let on = further front (step ∷ back) (mounted_state volume) (λ c. no_call) (starts volume coherent (front ++ step ∷ back) has_answered.legal has_answered.ruled) in
+        (on.legal.0.log, on.legal.0.of_sub)

@@ -1,6 +1,0 @@
-use Rattle.commit_laws.proofs.Promises.{acknowledged_once_answered}
-use Rattle.commit_laws.proofs.answers.answered_fsyncs_are_acknowledged.Goals as goal
-
-pub returns : goal.returns
-returns c volume front back caller sub ino end datasync old new answer coherent legal ruled still is durable has there =
-    acknowledged_once_answered volume coherent caller sub ino datasync front back end old new answer legal ruled still is durable has there
