@@ -1,18 +1,17 @@
 -- A file has as many bytes in blocks as its extents cover.
-use Rattle.std.proofs.Common.{◌≡◌, ◌≢◌, ◌≤◌, ◌<◌, ◌+◌, ◌*◌, ◌/◌, ◌%◌, ◌++◌, ◌⊎◌, ◌==◌, ◌&&◌, ℕ, zero, suc, Bool, true, false, cond, List, [], ◌∷◌, length, map, flat_map, sum_by, Contains, Option, Some, None, is_some, Result, Ok, Err, nat_cmp, refl, sym, ap, subst, ◌∙◌, arith, inl, inr, length-append}
+use Rattle.std.proofs.Common.{◌≡◌, ◌<◌, ◌+◌, ◌*◌, ◌/◌, ◌++◌, ℕ, zero, suc, Bool, true, false, cond, List, [], ◌∷◌, length, map, flat_map, sum_by, Contains, Option, Some, None, is_some, Result, Ok, Err, nat_cmp, refl, sym, ap, subst, ◌∙◌, arith, inl, inr, length-append}
 use Rattle.std.proofs.lemmas.Bool.{and_parts, eqb-true, cases_order}
-use Rattle.std.proofs.lemmas.List.{length-map, map-append}
+use Rattle.std.proofs.lemmas.List.{map-append}
 use Rattle.std.proofs.lemmas.List.Sums.{sum_by-cons}
 use Rattle.std.proofs.lemmas.List.Elements.{Contains-append_left}
 use Rattle.std.specs.Cmp.{nat_cmp_total}
-use Rattle.std.specs.FinMap.{get, len, insert, from_entries, contains_key, len-empty, len-insert, nat_cmp-IsAntisymmetric}
-use Rattle.blk_base.specs.declared.key.Key.{Key}
+use Rattle.std.specs.FinMap.{get, len, from_entries, contains_key, len-empty, len-insert, nat_cmp-IsAntisymmetric}
 use Rattle.blk_base.specs.declared.fault.ItemFault.{ItemFault}
 use Rattle.blk_base.specs.Keys.{KeyBelow, extent_data}
 use Rattle.blk_base.specs.Leaf.{Item}
 use Rattle.blk_base.specs.Extents.{ExtentValue, Inline, Regular, Hole, extent_of}
 use Rattle.item_laws.specs.ExtentLaws.{extent_from}
-use Rattle.volume_image.specs.Subvolume.{Data, make_key, extent_len, data_addresses}
+use Rattle.volume_image.specs.Subvolume.{Data, make_key, extent_len}
 use Rattle.volume_image.specs.Tree.{ItemsRise}
 use Rattle.volume_image.proofs.Lists.{in_nothing, in_cons}
 use Rattle.volume_image.proofs.Reaches.{head_in, tail_in}
@@ -20,7 +19,7 @@ use Rattle.volume_image.proofs.Members.{in_map, map_in}
 use Rattle.volume_image.proofs.Extents.{run_is_reached}
 use Rattle.image_faults.specs.Said.{is_item_of, block_there, run_blocks, extent_blocks, blocks_in, said_blocks}
 use Rattle.image_faults.specs.Faulty.{AreReadable, HasData, StandOnce}
-use Rattle.image_faults.specs.Lists.{in_flat_map, once_append, one_once, taken}
+use Rattle.image_faults.specs.Lists.{in_flat_map, once_append, taken}
 use Rattle.image_faults.specs.Counts.{extent_bytes}
 use Rattle.image_faults.proofs.Rising.{head_below, rise_tail, not_below_itself}
 use Rattle.image_faults.proofs.Readings.{file_blocks_list, BlockItem, block_from, from_run_blocks}
@@ -77,7 +76,7 @@ run_length blocks (suc count) number at held =
 
 -- ---- lists of items
 
-once_rising_in : {Y : Type 0} (f : Item → List Y) (items : List Item) → ItemsRise items → ((item : Item) → Contains items item → StandOnce (f item))
+pub once_rising_in : {Y : Type 0} (f : Item → List Y) (items : List Item) → ItemsRise items → ((item : Item) → Contains items item → StandOnce (f item))
     → ((one two : Item) (y : Y) → Contains items one → Contains items two → KeyBelow one.0 two.0 → Contains (f one) y → Contains (f two) y → ⊥) → StandOnce (flat_map f items)
 once_rising_in f [] rise each apart = tt
 once_rising_in f (item ∷ items) rise each apart =

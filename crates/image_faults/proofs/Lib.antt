@@ -14,3 +14,4 @@ pub mod FromLines
 pub mod Firsts
 pub mod WorkedNumbers
 pub mod ExtentSums
+pub mod RefSums

@@ -25,14 +25,14 @@ use Rattle.image_faults.proofs.Rising.{key_once}
 
 -- ---- sets of names
 
-name_set_has : (names : List FlatName) (name : FlatName) → Contains names name → Contains (name_set names) name
+pub name_set_has : (names : List FlatName) (name : FlatName) → Contains names name → Contains (name_set names) name
 name_set_has [] name c = absurd (in_nothing name c)
 name_set_has (other ∷ names) name c = elim (in_cons other name names c) [
   | inl here ↦ subst (λ (n : FlatName). Contains (name_set (other ∷ names)) n) here (add_name_has other (name_set names))
   | inr there ↦ add_name_keeps other (name_set names) name (name_set_has names name there)
 ]
 
-name_set_gives : (names : List FlatName) (name : FlatName) → Contains (name_set names) name → Contains names name
+pub name_set_gives : (names : List FlatName) (name : FlatName) → Contains (name_set names) name → Contains names name
 name_set_gives [] name c = c
 name_set_gives (other ∷ names) name c = elim (add_name_cases other (name_set names) name c) [
   | inl here ↦ subst (λ (n : FlatName). Contains (other ∷ names) n) here (head_in other names)

@@ -1,5 +1,5 @@
 -- Numbers that a check adds up item by item: the bytes of a file's extents, and the refs of an inode.
-use Rattle.std.specs.Prelude.{ℕ, ◌&&◌, ◌==◌, List, length, filter, if◌then◌else◌}
+use Rattle.std.specs.Prelude.{ℕ, length, filter, if◌then◌else◌}
 use Rattle.blk_base.specs.Keys.{extent_data}
 use Rattle.blk_base.specs.Leaf.{Item}
 use Rattle.flat_model.specs.Names.{leads_to}
