@@ -15,8 +15,8 @@ use Rattle.logged_volume.specs.FlatLog.{WholeDir, empty_log}
 use Rattle.logged_volume.specs.Replay.{replay}
 use Rattle.log_rows.specs.Written.{written_log}
 use Rattle.flat_model.specs.Volume.{Subvolume}
-use Rattle.log_rows.specs.Rows.{row, shifted, shifted_names, row_inodes, row_names, again, again_inodes, again_names, ample, bare, bare_inodes, crossed, crossed_names, cut, cut_inodes, cut_names, deep, deep_inodes, deep_names, emptied, emptied_inodes, emptied_log, emptied_names, file_of, filled, filled_inodes, filled_names, grown, grown_inodes, grown_log, grown_whole, left, left_inodes, left_names, moved, moved_names, nested, nested_inodes, nested_names, pair, pair_inodes, pair_names, range, remade, remade_inodes, remade_names, removed_log, renamed, renamed_inodes, renamed_names, replaced, replaced_inodes, replaced_names, resized, resized_inodes, resized_names, turned, turned_names}
-use Rattle.log_rows.proofs.Computing.{least_is, reason_is, names_are, record_is, data_step, ranges_are, whole_is, replayed_is}
+use Rattle.log_rows.specs.Rows.{again, again_inodes, again_names, ample, bare, bare_inodes, changed, changed_inodes, changed_names, crossed, crossed_names, cut, cut_inodes, cut_names, deep, deep_inodes, deep_names, emptied, emptied_inodes, emptied_log, emptied_names, file_of, filled, filled_inodes, filled_names, grown, grown_inodes, grown_log, grown_whole, left, left_inodes, left_names, made_entry, moved, moved_names, nested, nested_inodes, nested_names, pair, pair_inodes, pair_names, range, remade, remade_inodes, remade_names, removed_log, renamed, renamed_inodes, renamed_names, replaced, replaced_inodes, replaced_names, resized, resized_inodes, resized_names, row, row_inodes, row_names, shifted, shifted_names, three, three_inodes, three_names, turned, turned_names}
+use Rattle.log_rows.proofs.Computing.{data_step, entries_are, least_is, names_are, ranges_are, reason_is, record_is, replayed_is, whole_is}
 
 pub renamed_drawn : drawn_set remade renamed 258 ≡ 257 ∷ 258 ∷ []
 unfolding dirs_above reached do_names_differ name_hash_of register_after crc_byte crc_bits crc_bit
@@ -180,3 +180,19 @@ emptied_replayed = replayed_is filled_inodes filled_names ((257, WholeDir (recor
 pub removed_replayed : (replay filled removed_log).names ≡ []
 unfolding name_cmp
 removed_replayed = replayed_is filled_inodes filled_names ((256, WholeDir (record { attributes = empty })) ∷ []) [] removed_log.ranges
+
+pub changed_drawn : drawn_set changed three 257 ≡ 257 ∷ 259 ∷ 261 ∷ []
+unfolding dirs_above reached do_names_differ name_hash_of register_after crc_byte crc_bits crc_bit
+changed_drawn = least_is changed_inodes changed_names three_inodes three_names 257 true
+
+pub changed_after : (log_step changed three 257 false).names ≡ changed_names
+unfolding dirs_above reached do_names_differ name_hash_of register_after crc_byte crc_bits crc_bit name_cmp
+changed_after = names_are changed_inodes changed_names three_inodes three_names 257
+
+pub changed_ranges : (written_log three changed three 257 false empty_log).ranges ≡ range 257 4 4 ∷ range 257 6 18_446_744_073_709_551_615 ∷ []
+unfolding dirs_above reached do_names_differ name_hash_of register_after crc_byte crc_bits crc_bit
+changed_ranges = ranges_are changed_inodes changed_names three_inodes three_names 257 three_inodes three_names empty_log
+
+pub changed_entries : (written_log three changed three 257 false empty_log).entries ≡ made_entry ∷ []
+unfolding dirs_above reached do_names_differ name_hash_of register_after crc_byte crc_bits crc_bit
+changed_entries = entries_are changed_inodes changed_names three_inodes three_names 257 three_inodes three_names empty_log

@@ -6,7 +6,7 @@ use Rattle.flat_model.specs.Records.{InodeRecord, FileInode, new_file, new_dir}
 use Rattle.flat_model.specs.Names.{FlatName}
 use Rattle.flat_model.specs.Volume.{Subvolume}
 use Rattle.logged_volume.specs.Rules.{RoomNumbers}
-use Rattle.logged_volume.specs.FlatLog.{WholeInode, WholeFile, WholeDir, LogRange, FlatLog}
+use Rattle.logged_volume.specs.FlatLog.{WholeInode, WholeFile, WholeDir, LogRange, LogEntry, FlatLog}
 
 -- a near name of one byte
 abbrev pub one_byte : ℕ → ℕ → ℕ → ℕ → FlatName
@@ -106,6 +106,29 @@ bare_inodes = (256, new_dir) ∷ []
 
 abbrev pub bare : Subvolume
 bare = with bare_inodes []
+
+-- ---- of `/d/a`, `/d/b` and `/d/c` the middle one is unlinked, and `/d/d` made
+
+abbrev pub three_inodes : List (ℕ × InodeRecord)
+three_inodes = (256, new_dir) ∷ (257, new_dir) ∷ (258, new_file) ∷ (259, new_file) ∷ (260, new_file) ∷ []
+
+abbrev pub three_names : List FlatName
+three_names = one_byte 256 2 100 257 ∷ one_byte 257 3 97 258 ∷ one_byte 257 4 98 259 ∷ one_byte 257 5 99 260 ∷ []
+
+abbrev pub three : Subvolume
+three = with three_inodes three_names
+
+abbrev pub changed_inodes : List (ℕ × InodeRecord)
+changed_inodes = (256, new_dir) ∷ (257, new_dir) ∷ (258, new_file) ∷ (260, new_file) ∷ (261, new_file) ∷ []
+
+abbrev pub changed_names : List FlatName
+changed_names = one_byte 256 2 100 257 ∷ one_byte 257 3 97 258 ∷ one_byte 257 5 99 260 ∷ one_byte 257 6 100 261 ∷ []
+
+abbrev pub changed : Subvolume
+changed = with changed_inodes changed_names
+
+abbrev pub made_entry : LogEntry
+made_entry = record { dir = 257; index = 6; bytes = 100 ∷ []; ino = 261 }
 
 -- ---- `/g/c` is moved to `/q/c`, the directory `/g` removed and a file `/g` made
 

@@ -8,6 +8,6 @@ mod rows;
 
 pub use logs::each_step_has_its_log;
 pub use rows::{
-    data_alone, files_made_again, gone_directories, moved_directories, removed_names,
-    renamed_files, rows_of_renames, whole_inodes,
+    changed_indexes, data_alone, files_made_again, gone_directories, moved_directories,
+    removed_names, renamed_files, rows_of_renames, whole_inodes,
 };

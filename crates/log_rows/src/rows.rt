@@ -7,7 +7,7 @@ ghost use Rattle.logged_volume.specs.LogStep.{log_step};
 ghost use Rattle.logged_volume.specs.Replay.{replay};
 ghost use Rattle.logged_volume.specs.Rules.{commit_reason};
 ghost use Rattle.log_rows.specs.Written.{written_log};
-ghost use Rattle.log_rows.specs.Rows.{row, shifted, shifted_names, again, again_names, ample, bare, crossed, crossed_names, cut, cut_names, deep, emptied, emptied_log, emptied_names, file_of, filled, grown, grown_log, grown_whole, left, moved, moved_names, nested, pair, range, remade, remade_names, removed_log, renamed, renamed_names, replaced, resized, turned, turned_names};
+ghost use Rattle.log_rows.specs.Rows.{again, again_names, ample, bare, changed, changed_names, crossed, crossed_names, cut, cut_names, deep, emptied, emptied_log, emptied_names, file_of, filled, grown, grown_log, grown_whole, left, made_entry, moved, moved_names, nested, pair, range, remade, remade_names, removed_log, renamed, renamed_names, replaced, resized, row, shifted, shifted_names, three, turned, turned_names};
 
 /// Worked values: `/a` was renamed to `/b` and another file made as `/a`; two files exchanged their names by way of a
 /// third name. An fsync of the one that is now `/a` draws the other too, and logs its new name.
@@ -47,6 +47,16 @@ pub fn removed_names()
     ensures removed_after { (log_step bare emptied 256 false).names ≡ [] }
     ensures removed_ranges { (written_log filled bare emptied 256 false emptied_log).ranges ≡ range 256 0 18_446_744_073_709_551_615 ∷ range 257 3 3 ∷ [] }
     ensures removed_replayed { (replay filled removed_log).names ≡ [] }
+{}
+
+/// Worked values: of the names of a directory at the indexes 3, 4 and 5 the middle one was unlinked, and one made at 6. An
+/// fsync of the directory draws the file that is gone and the one that came; the log has ranges of the changed indexes
+/// alone, and the entry that stands in them.
+pub fn changed_indexes()
+    ensures changed_drawn { drawn_set changed three 257 ≡ 257 ∷ 259 ∷ 261 ∷ [] }
+    ensures changed_after { (log_step changed three 257 false).names ≡ changed_names }
+    ensures changed_ranges { (written_log three changed three 257 false empty_log).ranges ≡ range 257 4 4 ∷ range 257 6 18_446_744_073_709_551_615 ∷ [] }
+    ensures changed_entries { (written_log three changed three 257 false empty_log).entries ≡ made_entry ∷ [] }
 {}
 
 /// Worked values: `/g/c` was moved to `/q/c`, the directory `/g` removed and a file made as `/g`. An fsync of the file
