@@ -76,7 +76,7 @@ made_same volume history more id committed_at old new steps flat next same stays
   made = subst (λ c. AreMade c steps new.logged next) (sym same.committed) (subst (λ l. AreMade old.committed steps l next) (sym same.logged) (subst (AreMade old.committed steps old.logged) (sym stays) made.made));
 }
 
-abbrev AllMade : Volume → List Operated → Ledger → State → FlatLogs → Type 0
+abbrev pub AllMade : Volume → List Operated → Ledger → State → FlatLogs → Type 0
 AllMade volume history ledger state flats = (id : ℕ) (log : SubLog) → HasLog state id log → LogIsMade volume history id state.committed_at log (ledger.steps id) (flats id)
 
 module _ (volume : Volume) (coherent : IsCoherentVolume volume) (history : List Operated) (tried : List Volume) (state : State) (holds : Holds volume history tried state) (ledger : Ledger) (ledger_is : ledger.state ≡ state) (before : FlatLogs) (all : AllMade volume history ledger state before) where
@@ -252,10 +252,10 @@ module _ (volume : Volume) (coherent : IsCoherentVolume volume) (history : List 
 
   -- ---- one event
 
-  abbrev history_after : Event → List Operated
+  abbrev pub history_after : Event → List Operated
   history_after e = history ++ operations_of (e ∷ [])
 
-  event_made : (e : Event) (next : FlatLogs) → MayCome state e → EventWrites state e before next → AllMade volume (history_after e) (ledger_after ledger e) (after state e) next
+  pub event_made : (e : Event) (next : FlatLogs) → MayCome state e → EventWrites state e before next → AllMade volume (history_after e) (ledger_after ledger e) (after state e) next
   unfolding after
   event_made (event.Op caller op again end indexes) next may writes = quiet (event.Op caller op again end indexes) (operated_by op indexes end ∷ []) next refl refl (λ id log. same_log log) writes
   event_made (event.Refused caller target answer) next may writes = quiet (event.Refused caller target answer) [] next refl refl (λ id log. same_log log) writes
@@ -275,11 +275,11 @@ module _ (volume : Volume) (coherent : IsCoherentVolume volume) (history : List 
 -- ---- all events
 
 module _ (volume : Volume) (coherent : IsCoherentVolume volume) where
-  legal_front : (state : State) (front back : List Event) → IsLegalFrom state (front ++ back) → IsLegalFrom state front
+  pub legal_front : (state : State) (front back : List Event) → IsLegalFrom state (front ++ back) → IsLegalFrom state front
   legal_front state [] back legal = tt
   legal_front state (e ∷ front) back legal = (legal.0, legal_front (after state e) front back legal.1)
 
-  operations_more : (one two : List Event) → operations_of (one ++ two) ≡ operations_of one ++ operations_of two
+  pub operations_more : (one two : List Event) → operations_of (one ++ two) ≡ operations_of one ++ operations_of two
   operations_more [] two = refl
   operations_more (event.Op caller op again end indexes ∷ one) two = ap (λ h. operated_by op indexes end ∷ h) (operations_more one two)
   operations_more (event.Refused caller target answer ∷ one) two = operations_more one two
@@ -294,9 +294,13 @@ module _ (volume : Volume) (coherent : IsCoherentVolume volume) where
   operations_more (event.Failed caller turn was_tried ∷ one) two = operations_more one two
   operations_more (event.GiveUp caller sub number ∷ one) two = operations_more one two
 
-  events_more : (state : State) (past : List Event) (e : Event) → after_events state (past ++ e ∷ []) ≡ after (after_events state past) e
+  pub events_more : (state : State) (past : List Event) (e : Event) → after_events state (past ++ e ∷ []) ≡ after (after_events state past) e
   events_more state [] e = refl
   events_more state (first ∷ past) e = events_more (after state first) past e
+
+  pub may_at : (state : State) (front : List Event) (x : Event) (back : List Event) → IsLegalFrom state (front ++ x ∷ back) → MayCome (after_events state front) x
+  may_at state [] x back l = l.0
+  may_at state (first ∷ front) x back l = may_at (after state first) front x back l.1
 
   all_made : (events past : List Event) (ledger : Ledger) (before left : FlatLogs) → ledger.state ≡ state_of volume past → IsLegal volume (past ++ events) → AreWritten (state_of volume past) before events left
       → AllMade volume (operations_of past) ledger (state_of volume past) before → AllMade volume (operations_of (past ++ events)) (fold ledger_after ledger events) (state_of volume (past ++ events)) left
@@ -315,12 +319,8 @@ module _ (volume : Volume) (coherent : IsCoherentVolume volume) where
       let rest = all_made events (past ++ e ∷ []) (ledger_after ledger e) written.0 left (state_after ledger e ∙ ap (λ s. after s e) is ∙ sym state_is) (subst (IsLegal volume) longer legal)
       (subst (λ s. AreWritten s written.0 events left) (sym state_is) written.2) here in
       subst (λ (p : List Event). AllMade volume (operations_of p) (fold ledger_after (ledger_after ledger e) events) (state_of volume p) left) (sym longer) rest
-    where
-      may_at : (state : State) (front : List Event) (x : Event) (back : List Event) → IsLegalFrom state (front ++ x ∷ back) → MayCome (after_events state front) x
-      may_at state [] x back l = l.0
-      may_at state (first ∷ front) x back l = may_at (after state first) front x back l.1
 
-  mounted_made : AllMade volume [] (mounted_ledger volume) (mounted_state volume) (λ id. empty_log)
+  pub mounted_made : AllMade volume [] (mounted_ledger volume) (mounted_state volume) (λ id. empty_log)
   unfolding mounted_state
   mounted_made id log has =
       let first = changed_there (λ id sub. bare_log sub) volume id log has in

@@ -1,5 +1,5 @@
 -- What the events of a history write into the logs of the subvolumes.
-use Rattle.std.specs.Prelude.{◌≡◌, ◌≢◌, ℕ, ◌⊎◌, List, [], ◌∷◌, Some, Bool}
+use Rattle.std.specs.Prelude.{◌≡◌, ◌≢◌, ℕ, ◌⊎◌, ◌&&◌, List, [], ◌∷◌, None, Some, Bool, cond, nat_eq}
 use Rattle.std.specs.FinMap.{get}
 use Rattle.flat_model.specs.Volume.{RunSub, Subvolume}
 use Rattle.logged_volume.specs.FlatLog.{FlatLog, empty_log}
@@ -9,7 +9,7 @@ use Rattle.commit_history.specs.declared.event.Event.{Event}
 use Rattle.commit_history.specs.declared.event.Event.TheVariants as event
 use Rattle.commit_history.specs.declared.event.Logged.{Logged}
 use Rattle.commit_history.specs.declared.event.Logged.TheVariants as logged
-use Rattle.commit_history.specs.State.{SubLog, State, HasLog}
+use Rattle.commit_history.specs.State.{SubLog, State, HasLog, number_taken}
 use Rattle.commit_history.specs.Effects.{after}
 
 -- the logs of the subvolumes, by their numbers
@@ -42,3 +42,34 @@ EventWrites state other before next = StayAll before next
 abbrev pub AreWritten : State → FlatLogs → List Event → FlatLogs → Type 0
 AreWritten state before [] left = StayAll before left
 AreWritten state before (event ∷ events) left = (next : FlatLogs) × EventWrites state event before next × AreWritten (after state event) next events left
+
+-- ---- logs that are sealed, and those of a superblock
+
+-- the logs of the subvolumes: as they stand, as they were at the seal of each number, and as the superblock that was written last has them
+pub record KeptLogs : Type 0 where
+  pub standing : FlatLogs
+  pub sealed : ℕ → FlatLogs
+  pub durable : FlatLogs
+
+-- right after the mount each log is empty
+abbrev pub no_logs : KeptLogs
+no_logs = record { standing = λ id. empty_log; sealed = λ number id. empty_log; durable = λ id. empty_log }
+
+-- the logs as they were at each seal: a seal adds one of its subvolume
+abbrev pub sealed_after : Event → KeptLogs → ℕ → FlatLogs
+sealed_after (event.SealSub caller sub number) kept sealed_number id =
+    cond (nat_eq sealed_number number && nat_eq id sub.0) (kept.standing id) (kept.sealed sealed_number id)
+sealed_after other kept sealed_number id = kept.sealed sealed_number id
+
+-- the logs of the superblock written last: a root commit has each log that it takes as it was at its seal, a full commit none (own)
+abbrev pub durable_after : State → Event → KeptLogs → FlatLogs
+durable_after state (event.RootDone caller) kept id = elim (number_taken state.root id) [ None ↦ kept.durable id | Some number ↦ kept.sealed number id ]
+durable_after state (event.FullDone caller) kept id = empty_log
+durable_after state other kept id = kept.durable id
+
+-- these events, from these logs on, leave these
+abbrev pub AreKept : State → KeptLogs → List Event → KeptLogs → Type 0
+AreKept state kept [] left = left ≡ kept
+AreKept state kept (event ∷ events) left =
+    (next : FlatLogs) × EventWrites state event kept.standing next
+    × AreKept (after state event) (record { standing = next; sealed = sealed_after event kept; durable = durable_after state event kept }) events left

@@ -6,4 +6,4 @@
 
 mod logs;
 
-pub use logs::histories_write_logs;
+pub use logs::{histories_write_logs, sealed_logs_are_replayed};
