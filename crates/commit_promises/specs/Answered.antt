@@ -4,7 +4,7 @@ use Rattle.std.specs.FinMap.{get}
 use Rattle.flat_model.specs.declared.answer.Answer.{Answer}
 use Rattle.flat_model.specs.declared.answer.Answer.TheVariants as answers
 use Rattle.flat_model.specs.Records.{InodeRecord}
-use Rattle.flat_model.specs.Names.{names_of}
+use Rattle.flat_model.specs.Names.{FlatName, names_of}
 use Rattle.flat_model.specs.Step.{Operated}
 use Rattle.flat_model.specs.Volume.{Subvolume, Volume}
 use Rattle.commit_history.specs.declared.event.Event.{Event}
@@ -12,7 +12,7 @@ use Rattle.commit_history.specs.declared.event.Logged.{Logged}
 use Rattle.commit_history.specs.declared.event.Logged.TheVariants as logged
 use Rattle.commit_history.specs.Legal.{IsLegal}
 use Rattle.commit_history.specs.Calls.{IsRuled, answer_of, call_of, caller_of}
-use Rattle.commit_history.specs.Survival.{IsAtPoint, possible_volumes}
+use Rattle.commit_history.specs.Survival.{HasNameIn, IsAtPoint, possible_volumes}
 
 -- the answers by which what an fsync or fdatasync asked for is durable (own)
 abbrev pub is_durable : Answer → Bool
@@ -55,6 +55,14 @@ abbrev pub NamesAreSince : Volume → List Operated → ℕ → ℕ → ℕ → 
 NamesAreSince volume history id ino point left =
     (inode : InodeRecord) → get left.inodes ino ≡ Some inode
     → (later : ℕ) × (point ≤ later) × ((there : Subvolume) × IsAtPoint volume history id later there × (names_of there.names ino ≡ names_of left.names ino))
+
+-- What a directory had is kept from a point on: the names of each inode that had a name in it then are as at a later point, or the inode isn't there, as at a
+-- later point; and so are the names of each inode that is left with a name in it
+pub record EntriesAreSince (volume : Volume) (history : List Operated) (id dir point : ℕ) (left : Subvolume) : Type 0 where
+  pub had : (ino : ℕ) (then_ : Subvolume) → IsAtPoint volume history id point then_ → HasNameIn then_ dir ino → NamesAreSince volume history id ino point left
+  pub gone : (ino : ℕ) (then_ : Subvolume) → IsAtPoint volume history id point then_ → HasNameIn then_ dir ino → get left.inodes ino ≡ None
+      → (later : ℕ) × (point ≤ later) × ((there : Subvolume) × IsAtPoint volume history id later there × (get there.inodes ino ≡ None))
+  pub has : (name : FlatName) → Contains left.names name → name.dir ≡ dir → NamesAreSince volume history id name.ino point left
 
 -- each subvolume that a crash may leave is so
 abbrev pub EachLeft : Volume → List Event → ℕ → (Subvolume → Type 0) → Type 0
