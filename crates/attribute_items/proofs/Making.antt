@@ -1,0 +1,249 @@
+-- An attribute that is set or taken away, as an edit of the subvolume.
+use Rattle.std.proofs.Common.{◌≡◌, ◌≢◌, ◌⊎◌, ◌≤◌, ◌<◌, ◌+◌, ◌^◌, ◌-◌, ◌++◌, ℕ, Bool, List, [], ◌∷◌, Option, Some, None, length, min, flat_map, nat_lt, sum_by, refl, sym, ap, subst, ◌∙◌, arith, inl, inr}
+use Rattle.std.specs.Prelude.{All, Contains, IsSome, filter, not}
+use Rattle.std.specs.List.{AllByRecursion}
+use Rattle.std.specs.Str.{bytes_eq}
+use Rattle.std.specs.FinMap.{get, insert, remove}
+use Rattle.std.proofs.lemmas.Bool.Decides.{nat_tests}
+use Rattle.std.proofs.lemmas.Bool.{true≢false}
+use Rattle.std.proofs.lemmas.Grind.{flat_map-append}
+use Rattle.std.proofs.lemmas.List.{append-nil}
+use Rattle.std.proofs.lemmas.List.Sums.{sum_by-append, sum_by-cons}
+use Rattle.std.proofs.lemmas.List.Elements.{All-contains_itself, All-weaker, Contains-append_cases}
+use Rattle.blk_base.specs.declared.key.Key.{Key}
+use Rattle.blk_base.specs.Crc.{name_hash_of}
+use Rattle.blk_base.specs.Entries.{EntryValue, IsEntries, attr_entry, entry_bytes}
+use Rattle.blk_base.specs.ItemFaults.{IsEntriesKind}
+use Rattle.blk_base.specs.Keys.{key_below, xattr_item}
+use Rattle.blk_base.specs.Leaf.{Item}
+use Rattle.blk_base.specs.Name.{IsName}
+use Rattle.block_table.specs.declared.tree.SubState.{SubState}
+use Rattle.block_table.specs.Table.{Table}
+use Rattle.flat_model.specs.Lengths.{xattr_item_length}
+use Rattle.flat_model.specs.Records.{Attributes, InodeRecord, attributes_of, with_attributes}
+use Rattle.flat_model.specs.Volume.{Subvolume}
+use Rattle.flat_model.proofs.Maps.{get_insert_same, sum_filter_le}
+use Rattle.tree_range.specs.Between.{data_under}
+use Rattle.tree_range.specs.Shape.{tree_items}
+use Rattle.tree_range.proofs.Found.{contains_under}
+use Rattle.tree_frame.specs.Frame.{AreCurrent, with_item, without_item}
+use Rattle.volume_image.specs.Subvolume.{AttributesAsked, Data, HasEntries, attributes_asked, make_key}
+use Rattle.volume_image.proofs.Lists.{in_cons, in_nothing}
+use Rattle.volume_image.proofs.Members.{has_some, in_filter}
+use Rattle.volume_image.proofs.Spellings.{entries_are_one}
+use Rattle.table_volume.specs.Edited.{BearGeneration, HadEntry, Makes}
+use Rattle.table_volume.specs.Gives.{GivesSubvolume, data_in, sub_reach}
+use Rattle.table_volume.specs.Keyed.{DoesAsk, AsksInode, AsksRefs, AsksExtRefs, AsksAttributes, AsksHashed, AsksIndexed, AsksTarget, HoldsKey}
+use Rattle.table_volume.proofs.Items.{fewer_bear, put_bears, with_here, with_other, without_here, without_other}
+use Rattle.attribute_items.specs.Edit.{IsItemsEdit, with_entries}
+use Rattle.attribute_items.specs.Found.{IsAttribute, entries_there, entry_size, others, written_entry}
+use Rattle.attribute_items.proofs.Changed.{attributes_now, changed, makes}
+use Rattle.attribute_items.proofs.Hashed.{AreAttributes, are_asked, asked, asked_in, found_size, gone_attributes, gone_other, set_attributes, set_other}
+use Rattle.attribute_items.proofs.Items.{AreFound, data_with, data_without, found_there, no_data, record_there}
+use Rattle.attribute_items.proofs.Named.{all_behind, all_filtered, beside, none_sized}
+use Rattle.attribute_items.proofs.Spelled.{has_entries, spelled}
+
+-- ---- sizes
+
+pub behind_size : (kept : List EntryValue) (e : EntryValue) → sum_by entry_size (kept ++ e ∷ []) ≡ sum_by entry_size kept + entry_size e
+behind_size kept e = let both = sum_by-append entry_size kept (e ∷ []) in let one = sum_by-cons entry_size e [] in omega (arith, both, one)
+
+pub set_size : (there : Option (List ℕ)) (found : List EntryValue) (inode : InodeRecord) (running : ℕ) (name value : List ℕ) → AreFound there found inode (name_hash_of name)
+    → sum_by entry_size (others name found ++ written_entry running name value ∷ []) ≡ xattr_item_length (insert (attributes_of inode) name value) (name_hash_of name)
+set_size there found inode running name value is =
+    found_size (others name found ++ written_entry running name value ∷ []) (insert (attributes_of inode) name value) (name_hash_of name) (set_attributes found (attributes_of inode) running name value is.are)
+
+pub same_answer : (m w : ℕ) → m ≡ min w (2 ^ 64 - 1) → nat_lt 3970 m ≡ nat_lt 3970 w
+same_answer m w is = grind (arith, nat_tests)
+
+-- what was written behind others, as one list of entries
+pub written_behind : (kept : List EntryValue) (e : EntryValue) → flat_map entry_bytes kept ++ entry_bytes e ≡ flat_map entry_bytes (kept ++ e ∷ [])
+written_behind kept e =
+    ap (λ (l : List ℕ). flat_map entry_bytes kept ++ l) (sym (append-nil (entry_bytes e))) ∙ sym (flat_map-append entry_bytes kept (e ∷ []))
+
+-- the item of an attribute that is there
+pub item_there : (there : Option (List ℕ)) (found : List EntryValue) (inode : InodeRecord) (name : List ℕ) → AreFound there found inode (name_hash_of name) → found ≡ entries_there there → IsSome (get (attributes_of inode) name) → IsSome there
+item_there (Some bytes) found inode name is same has = refl
+item_there None found inode name is same has = absurd (by (get (attributes_of inode) name) refl has)
+  where
+    by : (o : Option (List ℕ)) → get (attributes_of inode) name ≡ o → IsSome o → ⊥
+    by None h some = true≢false (sym some)
+    by (Some value) h some = let at = is.are.all name value h refl in in_nothing at.0 (subst (λ (l : List EntryValue). Contains l at.0) same at.1)
+
+-- an item keeps at most its bytes without an attribute
+pub less_size : (there : Option (List ℕ)) (found : List EntryValue) (inode : InodeRecord) (name : List ℕ) → AreFound there found inode (name_hash_of name)
+    → sum_by entry_size (others name found) ≤ xattr_item_length (attributes_of inode) (name_hash_of name)
+less_size there found inode name is =
+    let whole = found_size found (attributes_of inode) (name_hash_of name) is.are in
+    let less = sum_filter_le entry_size (λ e. not (bytes_eq e.name name)) found in
+    omega (arith, whole, less)
+
+-- ---- what is asked for under the key
+
+asked_now : (sub : Subvolume) (ino hash : ℕ) (inode : InodeRecord) (attributes : Attributes) → attributes_asked (changed sub ino inode attributes) ino hash ≡ asked attributes hash
+asked_now sub ino hash inode attributes =
+    record_there (changed sub ino inode attributes) ino hash (with_attributes inode attributes) (get_insert_same sub.inodes ino (with_attributes inode attributes)) ∙ ap (λ (a : Attributes). asked a hash) (attributes_now inode attributes)
+
+module _ (sub : Subvolume) (blocks : Data) (ino hash : ℕ) (inode : InodeRecord) (attributes : Attributes) (found : List EntryValue) (are : AreAttributes found attributes hash) where
+  pub holds_some : found ≢ [] → AllByRecursion IsAttribute found → HoldsKey (changed sub ino inode attributes) blocks (make_key ino xattr_item hash) (Some (flat_map entry_bytes found))
+  holds_some some each = record {
+    only = λ bytes is.
+        let same : flat_map entry_bytes found ≡ bytes = cc in
+        let has : HasEntries xattr_item bytes (asked attributes hash) = subst (λ (b : List ℕ). HasEntries xattr_item b (asked attributes hash)) same (has_entries found attributes hash some each are) in
+        AttributesAsked refl (subst (λ (l : List EntryValue). HasEntries xattr_item bytes l) (sym (asked_now sub ino hash inode attributes)) has);
+    all = λ asks. refl;
+  }
+
+  nothing_asked : found ≡ [] → asked attributes hash ≢ [] → ⊥
+  nothing_asked none some =
+      let first = has_some (asked attributes hash) some in
+      let is = asked_in attributes hash first.0 first.1 in
+      let at = are.all first.0.name first.0.value is.has is.is in
+      in_nothing at.0 (subst (λ (l : List EntryValue). Contains l at.0) none at.1)
+
+  asks_nothing : found ≡ [] → DoesAsk (changed sub ino inode attributes) (make_key ino xattr_item hash) → ⊥
+  asks_nothing none (AsksInode i kind off here) = absurd (omega arith)
+  asks_nothing none (AsksRefs kind some) = absurd (omega arith)
+  asks_nothing none (AsksExtRefs kind some) = absurd (omega arith)
+  asks_nothing none (AsksAttributes kind some) = nothing_asked none (λ e. some (asked_now sub ino hash inode attributes ∙ e))
+  asks_nothing none (AsksHashed kind some) = absurd (omega arith)
+  asks_nothing none (AsksIndexed kind some) = absurd (omega arith)
+  asks_nothing none (AsksTarget link kind off here) = absurd (omega arith)
+
+  pub holds_none : found ≡ [] → HoldsKey (changed sub ino inode attributes) blocks (make_key ino xattr_item hash) None
+  holds_none none = record { only = λ bytes is. absurd (no_bytes bytes is); all = λ asks. absurd (asks_nothing none asks) }
+    where
+      no_bytes : (bytes : List ℕ) → None ≡ Some bytes → ⊥
+      no_bytes bytes e = cc
+
+-- ---- what is new bears the generation
+
+module _ (running : ℕ) (items : List Item) (ino hash : ℕ) (found : List EntryValue) (spells : (bytes : List ℕ) → data_under (make_key ino xattr_item hash) items ≡ Some bytes → IsEntries xattr_item bytes found)
+    (found_is : data_under (make_key ino xattr_item hash) items ≡ None → found ≡ []) where
+  had_entry : (there : Option (List ℕ)) → data_under (make_key ino xattr_item hash) items ≡ there → (e : EntryValue) → Contains found e → HadEntry items (make_key ino xattr_item hash) e
+  had_entry None h e c = absurd (in_nothing e (subst (λ (l : List EntryValue). Contains l e) (found_is h) c))
+  had_entry (Some bytes) h e c = record {
+    bytes = bytes;
+    found = found;
+    there = contains_under items (make_key ino xattr_item hash) bytes h;
+    spelled = spells bytes h;
+    has = c;
+  }
+
+  pub write_bears : (written : List EntryValue) → IsEntries xattr_item (flat_map entry_bytes written) written → ((e : EntryValue) → Contains written e → Contains found e ⊎ (e.transid ≡ running))
+      → BearGeneration running items (with_item (make_key ino xattr_item hash) (flat_map entry_bytes written) items)
+  write_bears written is each =
+      let key = make_key ino xattr_item hash in
+      put_bears running items key (flat_map entry_bytes written) (λ h. absurd (omega arith))
+      (λ other kind spelled.
+          let same : written ≡ other = entries_are_one xattr_item (flat_map entry_bytes written) written other is spelled in
+          subst (λ (l : List EntryValue). All (λ entry. HadEntry items key entry ⊎ (entry.transid ≡ running)) l) same
+          (All-weaker (Contains written) (λ (entry : EntryValue). HadEntry items key entry ⊎ (entry.transid ≡ running))
+          (λ e c. elim (each e c) [ inl old ↦ inl (had_entry (data_under key items) refl e old) | inr new ↦ inr new ]) written (All-contains_itself written)))
+      (λ h. absurd (omega arith))
+
+-- ---- the edits
+
+cons_nil : {X : Type 0} (x : X) (xs : List X) → x ∷ xs ≡ [] → ⊥
+cons_nil x xs e = cc
+
+not_empty_behind : {X : Type 0} (xs : List X) (x : X) → xs ++ x ∷ [] ≢ []
+not_empty_behind [] x = λ e. cc
+not_empty_behind (y ∷ xs) x = λ e. cc
+
+pub new_attribute : (running : ℕ) (name value : List ℕ) → running < 2 ^ 64 → IsName name → length value < 2 ^ 16 → IsAttribute (written_entry running name value)
+new_attribute running name value fits is_name short = record {
+  fits = record { target = record { objectid = omega arith; kind = omega arith; offset = omega arith }; transid = fits; value = short };
+  name = is_name;
+  kind = refl;
+}
+
+module _ (old new : Table) (before after : SubState) (sub : Subvolume) (ino : ℕ) (inode : InodeRecord) (name : List ℕ) (gives : GivesSubvolume old before.tree sub) (there : get sub.inodes ino ≡ Some inode)
+    (current : AreCurrent old (sub_reach old before.tree)) (running : after.running ≡ before.running) where
+  pub found_now : AreFound (data_under (make_key ino xattr_item (name_hash_of name)) (tree_items old before.tree)) (entries_there (data_under (make_key ino xattr_item (name_hash_of name)) (tree_items old before.tree))) inode (name_hash_of name)
+  found_now =
+      found_there (tree_items old before.tree) (data_in old) sub ino (name_hash_of name) inode gives.tree_in.order gives.items there (data_under (make_key ino xattr_item (name_hash_of name)) (tree_items old before.tree)) refl
+
+  none_found : data_under (make_key ino xattr_item (name_hash_of name)) (tree_items old before.tree) ≡ None → entries_there (data_under (make_key ino xattr_item (name_hash_of name)) (tree_items old before.tree)) ≡ []
+  none_found h = ap entries_there h
+
+  -- other entries are written in place of those of the item
+  written_made : (attributes : Attributes) (written : List EntryValue) (most : ℕ)
+      → IsItemsEdit old new before.tree after.tree (with_item (make_key ino xattr_item (name_hash_of name)) (flat_map entry_bytes written) (tree_items old before.tree)) most
+      → AreAttributes written attributes (name_hash_of name) → written ≢ [] → AllByRecursion IsAttribute written
+      → ((e : EntryValue) → Contains written e → Contains (entries_there (data_under (make_key ino xattr_item (name_hash_of name)) (tree_items old before.tree))) e ⊎ (e.transid ≡ before.running))
+      → ((other : List ℕ) → name_hash_of other ≢ name_hash_of name → get attributes other ≡ get (attributes_of inode) other)
+      → Makes old new before after most (changed sub ino inode attributes)
+  written_made attributes written most edit are some each from others_same =
+      let items = tree_items old before.tree in
+      let hash = name_hash_of name in
+      let key = make_key ino xattr_item hash in
+      let bytes = flat_map entry_bytes written in
+      makes old new before after sub ino hash inode attributes (with_item key bytes items) most gives there current edit running
+      (λ other differs. with_other key other bytes items differs) others_same
+      (subst (λ (o : Option (List ℕ)). HoldsKey (changed sub ino inode attributes) (data_in old) key o) (sym (with_here key bytes items)) (holds_some sub (data_in old) ino hash inode attributes written are some each))
+      (write_bears before.running items ino hash (entries_there (data_under key items)) found_now.spelled none_found written (spelled written some each are.once) from)
+      (data_with key bytes items gives.tree_in.order (no_data ino hash))
+
+  pub set_made : (value : List ℕ) (most : ℕ)
+      → IsItemsEdit old new before.tree after.tree (with_item (make_key ino xattr_item (name_hash_of name))
+      (flat_map entry_bytes (others name (entries_there (data_under (make_key ino xattr_item (name_hash_of name)) (tree_items old before.tree))) ++ written_entry before.running name value ∷ [])) (tree_items old before.tree)) most
+      → IsAttribute (written_entry before.running name value) → Makes old new before after most (changed sub ino inode (insert (attributes_of inode) name value))
+  set_made value most edit is =
+      let found = entries_there (data_under (make_key ino xattr_item (name_hash_of name)) (tree_items old before.tree)) in
+      let new_entry = written_entry before.running name value in
+      let kept : AllByRecursion IsAttribute (others name found) = all_filtered IsAttribute (λ entry. not (bytes_eq entry.name name)) found found_now.each in
+      written_made (insert (attributes_of inode) name value) (others name found ++ new_entry ∷ []) most edit (set_attributes found (attributes_of inode) before.running name value found_now.are)
+      (not_empty_behind (others name found) new_entry) (all_behind IsAttribute (others name found) new_entry kept is)
+      (λ e c. elim (Contains-append_cases (others name found) (new_entry ∷ []) e c) [
+        | inl early ↦ inl (beside name found e early).0
+        | inr last ↦ elim (in_cons new_entry e [] last) [
+          | inl here ↦ inr (sym (ap (λ (x : EntryValue). x.transid) here))
+          | inr none ↦ absurd (in_nothing e none)
+        ]
+      ])
+      (λ other apart. set_other (attributes_of inode) name value other (λ same. apart (ap name_hash_of same)))
+
+  less_made : (most : ℕ)
+      → IsItemsEdit old new before.tree after.tree (with_item (make_key ino xattr_item (name_hash_of name))
+      (flat_map entry_bytes (others name (entries_there (data_under (make_key ino xattr_item (name_hash_of name)) (tree_items old before.tree))))) (tree_items old before.tree)) most
+      → others name (entries_there (data_under (make_key ino xattr_item (name_hash_of name)) (tree_items old before.tree))) ≢ []
+      → Makes old new before after most (changed sub ino inode (remove (attributes_of inode) name))
+  less_made most edit some =
+      let found = entries_there (data_under (make_key ino xattr_item (name_hash_of name)) (tree_items old before.tree)) in
+      let kept : AllByRecursion IsAttribute (others name found) = all_filtered IsAttribute (λ entry. not (bytes_eq entry.name name)) found found_now.each in
+      written_made (remove (attributes_of inode) name) (others name found) most edit (gone_attributes found (attributes_of inode) name found_now.are) some kept
+      (λ e c. inl (beside name found e c).0)
+      (λ other apart. gone_other (attributes_of inode) name other (λ same. apart (ap name_hash_of same)))
+
+  gone_made : (most : ℕ) → IsItemsEdit old new before.tree after.tree (without_item (make_key ino xattr_item (name_hash_of name)) (tree_items old before.tree)) most
+      → others name (entries_there (data_under (make_key ino xattr_item (name_hash_of name)) (tree_items old before.tree))) ≡ []
+      → Makes old new before after most (changed sub ino inode (remove (attributes_of inode) name))
+  gone_made most edit none =
+      let items = tree_items old before.tree in
+      let hash = name_hash_of name in
+      let key = make_key ino xattr_item hash in
+      let found = entries_there (data_under key items) in
+      makes old new before after sub ino hash inode (remove (attributes_of inode) name) (without_item key items) most gives there current edit running
+      (λ other differs. without_other key other items differs)
+      (λ other apart. gone_other (attributes_of inode) name other (λ same. apart (ap name_hash_of same)))
+      (subst (λ (o : Option (List ℕ)). HoldsKey (changed sub ino inode (remove (attributes_of inode) name)) (data_in old) key o) (sym (without_here key items))
+      (holds_none sub (data_in old) ino hash inode (remove (attributes_of inode) name) (others name found) (gone_attributes found (attributes_of inode) name found_now.are) none))
+      (fewer_bear before.running items (without_item key items) (λ item c. elim (Contains-append_cases (filter (λ (x : Item). key_below x.0 key) items) (filter (λ (x : Item). key_below key x.0) items) item c) [
+        | inl low ↦ (in_filter (λ (x : Item). key_below x.0 key) items item low).0
+        | inr high ↦ (in_filter (λ (x : Item). key_below key x.0) items item high).0
+      ]))
+      (data_without key items gives.tree_in.order (no_data ino hash))
+
+  pub removed_made : (most : ℕ)
+      → IsItemsEdit old new before.tree after.tree (with_entries (make_key ino xattr_item (name_hash_of name)) (others name (entries_there (data_under (make_key ino xattr_item (name_hash_of name)) (tree_items old before.tree)))) (tree_items old before.tree)) most
+      → Makes old new before after most (changed sub ino inode (remove (attributes_of inode) name))
+  removed_made most edit =
+      by (others name (entries_there (data_under (make_key ino xattr_item (name_hash_of name)) (tree_items old before.tree)))) refl edit
+    where
+      by : (left : List EntryValue) → others name (entries_there (data_under (make_key ino xattr_item (name_hash_of name)) (tree_items old before.tree))) ≡ left
+          → IsItemsEdit old new before.tree after.tree (with_entries (make_key ino xattr_item (name_hash_of name)) left (tree_items old before.tree)) most → Makes old new before after most (changed sub ino inode (remove (attributes_of inode) name))
+      by [] h edit = gone_made most edit h
+      by (e ∷ es) h edit =
+          less_made most (subst (λ (l : List EntryValue). IsItemsEdit old new before.tree after.tree (with_item (make_key ino xattr_item (name_hash_of name)) (flat_map entry_bytes l) (tree_items old before.tree)) most) (sym h) edit)
+          (λ none. let no : e ∷ es ≡ [] = sym h ∙ none in absurd (cons_nil e es no))

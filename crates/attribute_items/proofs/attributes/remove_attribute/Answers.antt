@@ -1,0 +1,50 @@
+-- The item has the room that the subvolume's has, and what is made is that subvolume without the attribute.
+use Rattle.std.proofs.Common.{◌≡◌, ◌≤◌, ◌+◌, ◌^◌, ◌-◌, ◌++◌, ℕ, List, [], ◌∷◌, Option, Some, None, length, min, take, flat_map, sum_by, nat_lt, refl, sym, ap, subst, ◌∙◌, arith}
+use Rattle.std.specs.Prelude.{IsSome}
+use Rattle.blk_base.specs.declared.key.Key.{Key}
+use Rattle.blk_base.specs.Crc.{name_hash_of}
+use Rattle.blk_base.specs.Entries.{EntryValue, entry_bytes}
+use Rattle.blk_base.specs.Keys.{xattr_item}
+use Rattle.blk_base.specs.Leaf.{Item}
+use Rattle.flat_model.specs.Records.{InodeRecord, attributes_of}
+use Rattle.tree_range.specs.Between.{data_under}
+use Rattle.tree_range.specs.Shape.{tree_items, tree_reach}
+use Rattle.tree_range.proofs.Rise.{All-left}
+use Rattle.tree_frame.specs.Frame.{with_item, without_item}
+use Rattle.volume_image.specs.Subvolume.{make_key}
+use Rattle.table_volume.specs.Gives.{data_in, tree_data}
+use Rattle.attribute_items.specs.Edit.{IsItemsEdit, with_entries}
+use Rattle.attribute_items.specs.Found.{entries_there, entry_size, others, value_of, written_entry}
+use Rattle.attribute_items.proofs.Items.{found_there}
+use Rattle.attribute_items.proofs.Making.{item_there, less_size, removed_made}
+use Rattle.attribute_items.proofs.attributes.remove_attribute.Goals as goal
+
+pub drop_value-requires-clause-room : goal.drop_value-requires-clause-room
+drop_value-requires-clause-room c =
+    let items = tree_items c.args.table.now c.args.sub.now.tree in
+    let name = c.args.name.now in
+    let key : c.attribute_key-key.result ≡ make_key c.args.ino.0 xattr_item (name_hash_of name) = c.attribute_key-key.ensures ∙ ap (λ (n : List ℕ). make_key c.args.ino.0 xattr_item (name_hash_of n)) c.as_bytes.ensures.value in
+    let given = c.requires.given in
+    let there_is : Option (List ℕ) = data_under (make_key c.args.ino.0 xattr_item (name_hash_of name)) items in
+    let found = found_there items (data_in c.args.table.now) given.sub c.args.ino.0 (name_hash_of name) given.inode given.gives.tree_in.order given.gives.items given.there there_is refl in
+    let less = less_size there_is (entries_there there_is) given.inode name found in
+    let fits : sum_by entry_size (others name (entries_there there_is)) ≤ 3970 = omega (arith, less, given.fits) in
+    subst (λ (k : Key). sum_by entry_size (others name (entries_there (data_under k items))) ≤ 3970) (sym key) fits
+
+pub drop_value-requires-clause-present : goal.drop_value-requires-clause-present
+drop_value-requires-clause-present c =
+    let items = tree_items c.args.table.now c.args.sub.now.tree in
+    let name = c.args.name.now in
+    let key : c.attribute_key-key.result ≡ make_key c.args.ino.0 xattr_item (name_hash_of name) = c.attribute_key-key.ensures ∙ ap (λ (n : List ℕ). make_key c.args.ino.0 xattr_item (name_hash_of n)) c.as_bytes.ensures.value in
+    let given = c.requires.given in
+    let there_is : Option (List ℕ) = data_under (make_key c.args.ino.0 xattr_item (name_hash_of name)) items in
+    let found = found_there items (data_in c.args.table.now) given.sub c.args.ino.0 (name_hash_of name) given.inode given.gives.tree_in.order given.gives.items given.there there_is refl in
+    subst (λ (k : Key). IsSome (data_under k items)) (sym key) (item_there there_is (entries_there there_is) given.inode name found refl given.has)
+
+pub returns-clause-made : goal.returns-clause-made
+returns-clause-made c given inode gives there =
+    let items = tree_items c.args.table.now c.args.sub.now.tree in
+    let name = c.args.name.now in
+    let key : c.attribute_key-key.result ≡ make_key c.args.ino.0 xattr_item (name_hash_of name) = c.attribute_key-key.ensures ∙ ap (λ (n : List ℕ). make_key c.args.ino.0 xattr_item (name_hash_of n)) c.as_bytes.ensures.value in
+    let edit = subst (λ (k : Key). IsItemsEdit c.args.table.now c.drop_value.new.table c.args.sub.now.tree c.drop_value.new.sub.tree (with_entries k (others name (entries_there (data_under k items))) items) 17) key c.drop_value.ensures.edit in
+    removed_made c.args.table.now c.drop_value.new.table c.args.sub.now c.drop_value.new.sub given c.args.ino.0 inode name gives there c.requires.current (ap (λ (s : Rattle.block_table.specs.declared.tree.SubState.SubState). s.running) c.drop_value.ensures.state) 17 edit
