@@ -3,6 +3,7 @@ use Rattle.std.specs.Prelude.{◌≡◌, ◌⊎◌, ℕ, List, All, Contains}
 use Rattle.blk_base.specs.declared.key.Key.{Key}
 use Rattle.blk_base.specs.Bytes.{field}
 use Rattle.blk_base.specs.Entries.{EntryValue, IsEntries}
+use Rattle.blk_base.specs.ItemFaults.{IsEntriesKind}
 use Rattle.blk_base.specs.Keys.{extent_data, inode_item}
 use Rattle.blk_base.specs.Leaf.{Item}
 use Rattle.block_table.specs.declared.tree.SubState.{SubState}
@@ -25,7 +26,8 @@ pub record HadEntry (items : List Item) (key : Key) (entry : EntryValue) : Type 
 -- ("INODE_ITEM": transid; "DIR_ITEM": transid; "EXTENT_DATA": generation).
 pub record BearGeneration (running : ℕ) (old new : List Item) : Type 0 where
   pub inodes : (key : Key) (bytes : List ℕ) → key.kind ≡ inode_item → Contains new (key, bytes) → Contains old (key, bytes) ⊎ (field 8 bytes 8 ≡ running)
-  pub entries : (key : Key) (bytes : List ℕ) (found : List EntryValue) → Contains new (key, bytes) → IsEntries key.kind bytes found
+  pub entries : (key : Key) (bytes : List ℕ) (found : List EntryValue) → IsEntriesKind key.kind → Contains new (key, bytes)
+      → IsEntries key.kind bytes found
       → All (λ entry. HadEntry old key entry ⊎ (entry.transid ≡ running)) found
   pub extents : (key : Key) (bytes : List ℕ) → key.kind ≡ extent_data → Contains new (key, bytes) → Contains old (key, bytes) ⊎ (field 8 bytes 0 ≡ running)
 

@@ -1,4 +1,5 @@
 pub mod Gives
 pub mod Edited
+pub mod TreeEdit
 pub mod Running
 pub mod Keyed
