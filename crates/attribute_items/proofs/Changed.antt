@@ -19,10 +19,10 @@ use Rattle.tree_range.specs.Between.{data_under}
 use Rattle.tree_range.specs.Shape.{tree_items}
 use Rattle.tree_range.proofs.Found.{contains_under}
 use Rattle.tree_frame.specs.Frame.{AreCurrent}
-use Rattle.volume_image.specs.Subvolume.{AreItemsOf, CoversBlock, Data, HasEntries, IsAsked, InodeAsked, RefsAsked, ExtRefsAsked, AttributesAsked, HashedAsked, IndexedAsked, ExtentAsked, IsExtentOf, IsInodeOf, attribute_entry, attributes_asked, data_addresses, entry_kind_of, make_key}
+use Rattle.volume_image.specs.Subvolume.{AreItemsOf, CoversBlock, Data, HasEntries, IsAsked, InodeAsked, RefsAsked, ExtRefsAsked, AttributesAsked, HashedAsked, IndexedAsked, ExtentAsked, IsExtentOf, IsInodeOf, attribute_entry, attributes_asked, data_addresses, entry_kind_of, item_addresses, make_key}
 use Rattle.volume_image.proofs.Lists.{in_cons, in_nothing}
 use Rattle.volume_image.proofs.Members.{has_some, not_empty}
-use Rattle.table_volume.specs.Edited.{BearGeneration, Makes}
+use Rattle.table_volume.specs.Edited.{Makes}
 use Rattle.table_volume.specs.Gives.{GivesSubvolume, data_in, sub_reach, tree_data}
 use Rattle.table_volume.specs.Keyed.{DoesAsk, AsksInode, AsksRefs, AsksExtRefs, AsksAttributes, AsksHashed, AsksIndexed, AsksTarget, HoldsExtents, HoldsKey, is_touched}
 use Rattle.table_volume.specs.TreeEdit.{IsTreeEdit}
@@ -30,9 +30,10 @@ use Rattle.table_volume.proofs.Changes.{record_written}
 use Rattle.table_volume.proofs.Changing.{change_holds}
 use Rattle.table_volume.proofs.Keyed.{extents_hold, found_under, keys_hold}
 use Rattle.table_volume.proofs.SubEdits.{tree_as_sub, tree_gives}
-use Rattle.attribute_items.specs.Edit.{IsItemsEdit}
+use Rattle.item_edit.specs.ItemEdit.{BearsUnder, IsItemEdit, changed_item}
+use Rattle.table_volume.proofs.Items.{with_here, with_other, without_here, without_other}
 use Rattle.attribute_items.proofs.Hashed.{AreAttributes, IsAsked as IsAskedEntry, are_asked, are_attributes, asked, asked_in, in_asked}
-use Rattle.attribute_items.proofs.Items.{record_there}
+use Rattle.attribute_items.proofs.Items.{data_with, data_without, no_data, record_there}
 
 -- ---- keys that tell of the inode
 
@@ -251,27 +252,35 @@ module _ (items after : List Item) (blocks : Data) (sub : Subvolume) (ino hash :
 
 -- ---- the edit
 
-pub makes : (old new : Table) (before after : SubState) (sub : Subvolume) (ino hash : ℕ) (inode : InodeRecord) (attributes : Attributes) (left : List Item) (most : ℕ)
-    → GivesSubvolume old before.tree sub → get sub.inodes ino ≡ Some inode → AreCurrent old (sub_reach old before.tree) → IsItemsEdit old new before.tree after.tree left most → after.running ≡ before.running
-    → ((other : Key) → other ≢ make_key ino xattr_item hash → data_under other left ≡ data_under other (tree_items old before.tree))
+under_changed : (key : Key) (now : Option (List ℕ)) (items : List Item) → data_under key (changed_item key now items) ≡ now
+under_changed key None items = without_here key items
+under_changed key (Some bytes) items = with_here key bytes items
+
+else_changed : (key other : Key) (now : Option (List ℕ)) (items : List Item) → other ≢ key → data_under other (changed_item key now items) ≡ data_under other items
+else_changed key other None items differs = without_other key other items differs
+else_changed key other (Some bytes) items differs = with_other key other bytes items differs
+
+data_changed : (key : Key) (now : Option (List ℕ)) (items : List Item) → ItemsRise items → ((x : Item) → x.0 ≡ key → item_addresses x ≡ []) → data_addresses (changed_item key now items) ≡ data_addresses items
+data_changed key None items rise none = data_without key items rise none
+data_changed key (Some bytes) items rise none = data_with key bytes items rise none
+
+pub makes : (old new : Table) (before after : SubState) (sub : Subvolume) (ino hash : ℕ) (inode : InodeRecord) (attributes : Attributes) (now : Option (List ℕ))
+    → GivesSubvolume old before.tree sub → get sub.inodes ino ≡ Some inode → AreCurrent old (sub_reach old before.tree) → IsItemEdit old new before.tree after.tree (make_key ino xattr_item hash) now → after.running ≡ before.running
     → ((name : List ℕ) → name_hash_of name ≢ hash → get attributes name ≡ get (attributes_of inode) name)
-    → HoldsKey (changed sub ino inode attributes) (data_in old) (make_key ino xattr_item hash) (data_under (make_key ino xattr_item hash) left)
-    → BearGeneration before.running (tree_items old before.tree) left → data_addresses left ≡ tree_data old before.tree
-    → Makes old new before after most (changed sub ino inode attributes)
-makes old new before after sub ino hash inode attributes left most gives there current edit running else_same others_same held bear data_same =
-    let tree_edit : IsTreeEdit old new before.tree after.tree before.running most = record {
-      tree = edit.tree;
-      owner = edit.owner;
-      edit = edit.edit;
-      current = edit.current;
-      sealed = edit.sealed;
-      bear = subst (λ (l : List Item). BearGeneration before.running (tree_items old before.tree) l) (sym edit.items) bear;
-      taken = edit.taken;
-    } in
-    let data_now : tree_data new after.tree ≡ tree_data old before.tree = ap (λ (l : List Item). data_addresses l) edit.items ∙ data_same in
+    → HoldsKey (changed sub ino inode attributes) (data_in old) (make_key ino xattr_item hash) now
+    → ((bytes : List ℕ) → now ≡ Some bytes → BearsUnder before.running (tree_items old before.tree) (make_key ino xattr_item hash) bytes)
+    → Makes old new before after 17 (changed sub ino inode attributes)
+makes old new before after sub ino hash inode attributes now gives there current edit running others_same held bear =
+    let key = make_key ino xattr_item hash in
+    let items = tree_items old before.tree in
+    let left = changed_item key now items in
+    let next = changed sub ino inode attributes in
+    let tree_edit : IsTreeEdit old new before.tree after.tree before.running 17 = edit.edit before.running bear in
+    let data_now : tree_data new after.tree ≡ tree_data old before.tree = ap (λ (l : List Item). data_addresses l) edit.items ∙ data_changed key now items gives.tree_in.order (no_data ino hash) in
     let rises : ItemsRise left = subst ItemsRise edit.items edit.tree.order in
-    let are : AreItemsOf left (data_in old) (changed sub ino inode attributes) = items_changed (tree_items old before.tree) left (data_in old) sub ino hash inode attributes gives.tree_in.order rises gives.items there else_same others_same held in
+    let held_now = subst (λ (o : Option (List ℕ)). HoldsKey next (data_in old) key o) (sym (under_changed key now items)) held in
+    let are : AreItemsOf left (data_in old) next = items_changed items left (data_in old) sub ino hash inode attributes gives.tree_in.order rises gives.items there (λ other differs. else_changed key other now items differs) others_same held_now in
     record {
-      gives = tree_gives old new before.tree after.tree before.running most sub (changed sub ino inode attributes) gives tree_edit data_now (subst (λ (l : List Item). AreItemsOf l (data_in old) (changed sub ino inode attributes)) (sym edit.items) are);
-      edit = tree_as_sub old new before after sub most gives current tree_edit data_now running;
+      gives = tree_gives old new before.tree after.tree before.running 17 sub next gives tree_edit data_now (subst (λ (l : List Item). AreItemsOf l (data_in old) next) (sym edit.items) are);
+      edit = tree_as_sub old new before after sub 17 gives current tree_edit data_now running;
     }

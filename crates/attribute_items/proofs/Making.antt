@@ -14,7 +14,7 @@ use Rattle.blk_base.specs.declared.key.Key.{Key}
 use Rattle.blk_base.specs.Crc.{name_hash_of}
 use Rattle.blk_base.specs.Entries.{EntryValue, IsEntries, attr_entry, entry_bytes}
 use Rattle.blk_base.specs.ItemFaults.{IsEntriesKind}
-use Rattle.blk_base.specs.Keys.{key_below, xattr_item}
+use Rattle.blk_base.specs.Keys.{xattr_item}
 use Rattle.blk_base.specs.Leaf.{Item}
 use Rattle.blk_base.specs.Name.{IsName}
 use Rattle.block_table.specs.declared.tree.SubState.{SubState}
@@ -22,26 +22,28 @@ use Rattle.block_table.specs.Table.{Table}
 use Rattle.flat_model.specs.Lengths.{xattr_item_length}
 use Rattle.flat_model.specs.Records.{Attributes, InodeRecord, attributes_of, with_attributes}
 use Rattle.flat_model.specs.Volume.{Subvolume}
-use Rattle.flat_model.proofs.Maps.{get_insert_same, sum_filter_le}
+use Rattle.flat_model.proofs.Maps.{get_insert_same, some_same, sum_filter_le}
 use Rattle.tree_range.specs.Between.{data_under}
 use Rattle.tree_range.specs.Shape.{tree_items}
 use Rattle.tree_range.proofs.Found.{contains_under}
-use Rattle.tree_frame.specs.Frame.{AreCurrent, with_item, without_item}
+use Rattle.tree_frame.specs.Frame.{AreCurrent}
 use Rattle.volume_image.specs.Subvolume.{AttributesAsked, Data, HasEntries, attributes_asked, make_key}
 use Rattle.volume_image.proofs.Lists.{in_cons, in_nothing}
-use Rattle.volume_image.proofs.Members.{has_some, in_filter}
+use Rattle.volume_image.proofs.Members.{has_some}
 use Rattle.volume_image.proofs.Spellings.{entries_are_one}
-use Rattle.table_volume.specs.Edited.{BearGeneration, HadEntry, Makes}
+use Rattle.table_volume.specs.Edited.{HadEntry, Makes}
 use Rattle.table_volume.specs.Gives.{GivesSubvolume, data_in, sub_reach}
 use Rattle.table_volume.specs.Keyed.{DoesAsk, AsksInode, AsksRefs, AsksExtRefs, AsksAttributes, AsksHashed, AsksIndexed, AsksTarget, HoldsKey}
-use Rattle.table_volume.proofs.Items.{fewer_bear, put_bears, with_here, with_other, without_here, without_other}
-use Rattle.attribute_items.specs.Edit.{IsItemsEdit, with_entries}
-use Rattle.attribute_items.specs.Found.{IsAttribute, entries_there, entry_size, others, written_entry}
+use Rattle.item_edit.specs.ItemEdit.{BearsUnder, IsItemEdit}
+use Rattle.attribute_items.specs.Found.{IsAttribute, entries_there, entry_size, item_of, others, written_entry}
 use Rattle.attribute_items.proofs.Changed.{attributes_now, changed, makes}
 use Rattle.attribute_items.proofs.Hashed.{AreAttributes, are_asked, asked, asked_in, found_size, gone_attributes, gone_other, set_attributes, set_other}
-use Rattle.attribute_items.proofs.Items.{AreFound, data_with, data_without, found_there, no_data, record_there}
-use Rattle.attribute_items.proofs.Named.{all_behind, all_filtered, beside, none_sized}
+use Rattle.attribute_items.proofs.Items.{AreFound, found_there, record_there}
+use Rattle.attribute_items.proofs.Named.{NamesOnce, all_behind, all_filtered, beside}
 use Rattle.attribute_items.proofs.Spelled.{has_entries, spelled}
+
+cons_some : {X : Type 0} (x : X) (xs : List X) → x ∷ xs ≢ []
+cons_some x xs = λ e. cc
 
 -- ---- sizes
 
@@ -55,6 +57,15 @@ set_size there found inode running name value is =
 
 pub same_answer : (m w : ℕ) → m ≡ min w (2 ^ 64 - 1) → nat_lt 3970 m ≡ nat_lt 3970 w
 same_answer m w is = grind (arith, nat_tests)
+
+-- an item of entries that were written has their bytes
+pub item_behind : (kept : List EntryValue) (e : EntryValue) → item_of (kept ++ e ∷ []) ≡ Some (flat_map entry_bytes (kept ++ e ∷ []))
+item_behind [] e = refl
+item_behind (x ∷ kept) e = refl
+
+pub item_some : (es : List EntryValue) → sum_by entry_size es ≢ 0 → item_of es ≡ Some (flat_map entry_bytes es)
+item_some [] some = absurd (some refl)
+item_some (e ∷ es) some = refl
 
 -- what was written behind others, as one list of entries
 pub written_behind : (kept : List EntryValue) (e : EntryValue) → flat_map entry_bytes kept ++ entry_bytes e ≡ flat_map entry_bytes (kept ++ e ∷ [])
@@ -116,6 +127,11 @@ module _ (sub : Subvolume) (blocks : Data) (ino hash : ℕ) (inode : InodeRecord
       no_bytes : (bytes : List ℕ) → None ≡ Some bytes → ⊥
       no_bytes bytes e = cc
 
+pub holds_item : (sub : Subvolume) (blocks : Data) (ino hash : ℕ) (inode : InodeRecord) (attributes : Attributes) (found : List EntryValue) → AreAttributes found attributes hash → AllByRecursion IsAttribute found
+    → HoldsKey (changed sub ino inode attributes) blocks (make_key ino xattr_item hash) (item_of found)
+holds_item sub blocks ino hash inode attributes [] are each = holds_none sub blocks ino hash inode attributes [] are refl
+holds_item sub blocks ino hash inode attributes (e ∷ es) are each = holds_some sub blocks ino hash inode attributes (e ∷ es) are (cons_some e es) each
+
 -- ---- what is new bears the generation
 
 module _ (running : ℕ) (items : List Item) (ino hash : ℕ) (found : List EntryValue) (spells : (bytes : List ℕ) → data_under (make_key ino xattr_item hash) items ≡ Some bytes → IsEntries xattr_item bytes found)
@@ -131,25 +147,28 @@ module _ (running : ℕ) (items : List Item) (ino hash : ℕ) (found : List Entr
   }
 
   pub write_bears : (written : List EntryValue) → IsEntries xattr_item (flat_map entry_bytes written) written → ((e : EntryValue) → Contains written e → Contains found e ⊎ (e.transid ≡ running))
-      → BearGeneration running items (with_item (make_key ino xattr_item hash) (flat_map entry_bytes written) items)
+      → BearsUnder running items (make_key ino xattr_item hash) (flat_map entry_bytes written)
   write_bears written is each =
       let key = make_key ino xattr_item hash in
-      put_bears running items key (flat_map entry_bytes written) (λ h. absurd (omega arith))
-      (λ other kind spelled.
-          let same : written ≡ other = entries_are_one xattr_item (flat_map entry_bytes written) written other is spelled in
-          subst (λ (l : List EntryValue). All (λ entry. HadEntry items key entry ⊎ (entry.transid ≡ running)) l) same
-          (All-weaker (Contains written) (λ (entry : EntryValue). HadEntry items key entry ⊎ (entry.transid ≡ running))
-          (λ e c. elim (each e c) [ inl old ↦ inl (had_entry (data_under key items) refl e old) | inr new ↦ inr new ]) written (All-contains_itself written)))
-      (λ h. absurd (omega arith))
+      record {
+        inode = λ h. absurd (omega arith);
+        entries = λ other kind spelled.
+            let same : written ≡ other = entries_are_one xattr_item (flat_map entry_bytes written) written other is spelled in
+            subst (λ (l : List EntryValue). All (λ entry. HadEntry items key entry ⊎ (entry.transid ≡ running)) l) same
+            (All-weaker (Contains written) (λ (entry : EntryValue). HadEntry items key entry ⊎ (entry.transid ≡ running))
+            (λ e c. elim (each e c) [ inl old ↦ inl (had_entry (data_under key items) refl e old) | inr new ↦ inr new ]) written (All-contains_itself written));
+        extent = λ h. absurd (omega arith);
+      }
+
+pub bears_item : (running : ℕ) (items : List Item) (ino hash : ℕ) (found : List EntryValue) → ((bytes : List ℕ) → data_under (make_key ino xattr_item hash) items ≡ Some bytes → IsEntries xattr_item bytes found)
+    → (data_under (make_key ino xattr_item hash) items ≡ None → found ≡ []) → (written : List EntryValue) → AllByRecursion IsAttribute written → NamesOnce written
+    → ((e : EntryValue) → Contains written e → Contains found e ⊎ (e.transid ≡ running)) → (bytes : List ℕ) → item_of written ≡ Some bytes → BearsUnder running items (make_key ino xattr_item hash) bytes
+bears_item running items ino hash found spells found_is [] each once from bytes is = absurd cc
+bears_item running items ino hash found spells found_is (e ∷ es) each once from bytes is =
+    let same : flat_map entry_bytes (e ∷ es) ≡ bytes = some_same (flat_map entry_bytes (e ∷ es)) bytes is in
+    subst (λ (b : List ℕ). BearsUnder running items (make_key ino xattr_item hash) b) same (write_bears running items ino hash found spells found_is (e ∷ es) (spelled (e ∷ es) (cons_some e es) each once) from)
 
 -- ---- the edits
-
-cons_nil : {X : Type 0} (x : X) (xs : List X) → x ∷ xs ≡ [] → ⊥
-cons_nil x xs e = cc
-
-not_empty_behind : {X : Type 0} (xs : List X) (x : X) → xs ++ x ∷ [] ≢ []
-not_empty_behind [] x = λ e. cc
-not_empty_behind (y ∷ xs) x = λ e. cc
 
 pub new_attribute : (running : ℕ) (name value : List ℕ) → running < 2 ^ 64 → IsName name → length value < 2 ^ 16 → IsAttribute (written_entry running name value)
 new_attribute running name value fits is_name short = record {
@@ -168,33 +187,27 @@ module _ (old new : Table) (before after : SubState) (sub : Subvolume) (ino : �
   none_found h = ap entries_there h
 
   -- other entries are written in place of those of the item
-  written_made : (attributes : Attributes) (written : List EntryValue) (most : ℕ)
-      → IsItemsEdit old new before.tree after.tree (with_item (make_key ino xattr_item (name_hash_of name)) (flat_map entry_bytes written) (tree_items old before.tree)) most
-      → AreAttributes written attributes (name_hash_of name) → written ≢ [] → AllByRecursion IsAttribute written
+  written_made : (attributes : Attributes) (written : List EntryValue)
+      → IsItemEdit old new before.tree after.tree (make_key ino xattr_item (name_hash_of name)) (item_of written)
+      → AreAttributes written attributes (name_hash_of name) → AllByRecursion IsAttribute written
       → ((e : EntryValue) → Contains written e → Contains (entries_there (data_under (make_key ino xattr_item (name_hash_of name)) (tree_items old before.tree))) e ⊎ (e.transid ≡ before.running))
       → ((other : List ℕ) → name_hash_of other ≢ name_hash_of name → get attributes other ≡ get (attributes_of inode) other)
-      → Makes old new before after most (changed sub ino inode attributes)
-  written_made attributes written most edit are some each from others_same =
-      let items = tree_items old before.tree in
-      let hash = name_hash_of name in
-      let key = make_key ino xattr_item hash in
-      let bytes = flat_map entry_bytes written in
-      makes old new before after sub ino hash inode attributes (with_item key bytes items) most gives there current edit running
-      (λ other differs. with_other key other bytes items differs) others_same
-      (subst (λ (o : Option (List ℕ)). HoldsKey (changed sub ino inode attributes) (data_in old) key o) (sym (with_here key bytes items)) (holds_some sub (data_in old) ino hash inode attributes written are some each))
-      (write_bears before.running items ino hash (entries_there (data_under key items)) found_now.spelled none_found written (spelled written some each are.once) from)
-      (data_with key bytes items gives.tree_in.order (no_data ino hash))
+      → Makes old new before after 17 (changed sub ino inode attributes)
+  written_made attributes written edit are each from others_same =
+      makes old new before after sub ino (name_hash_of name) inode attributes (item_of written) gives there current edit running others_same
+      (holds_item sub (data_in old) ino (name_hash_of name) inode attributes written are each)
+      (bears_item before.running (tree_items old before.tree) ino (name_hash_of name) (entries_there (data_under (make_key ino xattr_item (name_hash_of name)) (tree_items old before.tree))) found_now.spelled none_found written each are.once from)
 
-  pub set_made : (value : List ℕ) (most : ℕ)
-      → IsItemsEdit old new before.tree after.tree (with_item (make_key ino xattr_item (name_hash_of name))
-      (flat_map entry_bytes (others name (entries_there (data_under (make_key ino xattr_item (name_hash_of name)) (tree_items old before.tree))) ++ written_entry before.running name value ∷ [])) (tree_items old before.tree)) most
-      → IsAttribute (written_entry before.running name value) → Makes old new before after most (changed sub ino inode (insert (attributes_of inode) name value))
-  set_made value most edit is =
+  pub set_made : (value : List ℕ)
+      → IsItemEdit old new before.tree after.tree (make_key ino xattr_item (name_hash_of name))
+      (item_of (others name (entries_there (data_under (make_key ino xattr_item (name_hash_of name)) (tree_items old before.tree))) ++ written_entry before.running name value ∷ []))
+      → IsAttribute (written_entry before.running name value) → Makes old new before after 17 (changed sub ino inode (insert (attributes_of inode) name value))
+  set_made value edit is =
       let found = entries_there (data_under (make_key ino xattr_item (name_hash_of name)) (tree_items old before.tree)) in
       let new_entry = written_entry before.running name value in
       let kept : AllByRecursion IsAttribute (others name found) = all_filtered IsAttribute (λ entry. not (bytes_eq entry.name name)) found found_now.each in
-      written_made (insert (attributes_of inode) name value) (others name found ++ new_entry ∷ []) most edit (set_attributes found (attributes_of inode) before.running name value found_now.are)
-      (not_empty_behind (others name found) new_entry) (all_behind IsAttribute (others name found) new_entry kept is)
+      written_made (insert (attributes_of inode) name value) (others name found ++ new_entry ∷ []) edit (set_attributes found (attributes_of inode) before.running name value found_now.are)
+      (all_behind IsAttribute (others name found) new_entry kept is)
       (λ e c. elim (Contains-append_cases (others name found) (new_entry ∷ []) e c) [
         | inl early ↦ inl (beside name found e early).0
         | inr last ↦ elim (in_cons new_entry e [] last) [
@@ -204,46 +217,12 @@ module _ (old new : Table) (before after : SubState) (sub : Subvolume) (ino : �
       ])
       (λ other apart. set_other (attributes_of inode) name value other (λ same. apart (ap name_hash_of same)))
 
-  less_made : (most : ℕ)
-      → IsItemsEdit old new before.tree after.tree (with_item (make_key ino xattr_item (name_hash_of name))
-      (flat_map entry_bytes (others name (entries_there (data_under (make_key ino xattr_item (name_hash_of name)) (tree_items old before.tree))))) (tree_items old before.tree)) most
-      → others name (entries_there (data_under (make_key ino xattr_item (name_hash_of name)) (tree_items old before.tree))) ≢ []
-      → Makes old new before after most (changed sub ino inode (remove (attributes_of inode) name))
-  less_made most edit some =
+  pub removed_made : IsItemEdit old new before.tree after.tree (make_key ino xattr_item (name_hash_of name))
+      (item_of (others name (entries_there (data_under (make_key ino xattr_item (name_hash_of name)) (tree_items old before.tree)))))
+      → Makes old new before after 17 (changed sub ino inode (remove (attributes_of inode) name))
+  removed_made edit =
       let found = entries_there (data_under (make_key ino xattr_item (name_hash_of name)) (tree_items old before.tree)) in
       let kept : AllByRecursion IsAttribute (others name found) = all_filtered IsAttribute (λ entry. not (bytes_eq entry.name name)) found found_now.each in
-      written_made (remove (attributes_of inode) name) (others name found) most edit (gone_attributes found (attributes_of inode) name found_now.are) some kept
+      written_made (remove (attributes_of inode) name) (others name found) edit (gone_attributes found (attributes_of inode) name found_now.are) kept
       (λ e c. inl (beside name found e c).0)
       (λ other apart. gone_other (attributes_of inode) name other (λ same. apart (ap name_hash_of same)))
-
-  gone_made : (most : ℕ) → IsItemsEdit old new before.tree after.tree (without_item (make_key ino xattr_item (name_hash_of name)) (tree_items old before.tree)) most
-      → others name (entries_there (data_under (make_key ino xattr_item (name_hash_of name)) (tree_items old before.tree))) ≡ []
-      → Makes old new before after most (changed sub ino inode (remove (attributes_of inode) name))
-  gone_made most edit none =
-      let items = tree_items old before.tree in
-      let hash = name_hash_of name in
-      let key = make_key ino xattr_item hash in
-      let found = entries_there (data_under key items) in
-      makes old new before after sub ino hash inode (remove (attributes_of inode) name) (without_item key items) most gives there current edit running
-      (λ other differs. without_other key other items differs)
-      (λ other apart. gone_other (attributes_of inode) name other (λ same. apart (ap name_hash_of same)))
-      (subst (λ (o : Option (List ℕ)). HoldsKey (changed sub ino inode (remove (attributes_of inode) name)) (data_in old) key o) (sym (without_here key items))
-      (holds_none sub (data_in old) ino hash inode (remove (attributes_of inode) name) (others name found) (gone_attributes found (attributes_of inode) name found_now.are) none))
-      (fewer_bear before.running items (without_item key items) (λ item c. elim (Contains-append_cases (filter (λ (x : Item). key_below x.0 key) items) (filter (λ (x : Item). key_below key x.0) items) item c) [
-        | inl low ↦ (in_filter (λ (x : Item). key_below x.0 key) items item low).0
-        | inr high ↦ (in_filter (λ (x : Item). key_below key x.0) items item high).0
-      ]))
-      (data_without key items gives.tree_in.order (no_data ino hash))
-
-  pub removed_made : (most : ℕ)
-      → IsItemsEdit old new before.tree after.tree (with_entries (make_key ino xattr_item (name_hash_of name)) (others name (entries_there (data_under (make_key ino xattr_item (name_hash_of name)) (tree_items old before.tree)))) (tree_items old before.tree)) most
-      → Makes old new before after most (changed sub ino inode (remove (attributes_of inode) name))
-  removed_made most edit =
-      by (others name (entries_there (data_under (make_key ino xattr_item (name_hash_of name)) (tree_items old before.tree)))) refl edit
-    where
-      by : (left : List EntryValue) → others name (entries_there (data_under (make_key ino xattr_item (name_hash_of name)) (tree_items old before.tree))) ≡ left
-          → IsItemsEdit old new before.tree after.tree (with_entries (make_key ino xattr_item (name_hash_of name)) left (tree_items old before.tree)) most → Makes old new before after most (changed sub ino inode (remove (attributes_of inode) name))
-      by [] h edit = gone_made most edit h
-      by (e ∷ es) h edit =
-          less_made most (subst (λ (l : List EntryValue). IsItemsEdit old new before.tree after.tree (with_item (make_key ino xattr_item (name_hash_of name)) (flat_map entry_bytes l) (tree_items old before.tree)) most) (sym h) edit)
-          (λ none. let no : e ∷ es ≡ [] = sym h ∙ none in absurd (cons_nil e es no))

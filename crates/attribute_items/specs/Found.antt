@@ -1,8 +1,9 @@
 -- The attributes that stand in an item ("XATTR_ITEM").
 use Rattle.std.specs.Prelude.{◌≡◌, ◌+◌, ℕ, not, List, [], ◌∷◌, length, filter, Option, Some, None, Result, Ok, Err, if◌then◌else◌}
+use Rattle.std.specs.List.{flat_map}
 use Rattle.std.specs.Str.{bytes_eq}
 use Rattle.blk_base.specs.declared.fault.ItemFault.{ItemFault}
-use Rattle.blk_base.specs.Entries.{EntryFits, EntryValue, attr_entry, entries_of}
+use Rattle.blk_base.specs.Entries.{EntryFits, EntryValue, attr_entry, entries_of, entry_bytes}
 use Rattle.blk_base.specs.Keys.{xattr_item}
 use Rattle.blk_base.specs.Name.{IsName}
 use Rattle.volume_image.specs.Subvolume.{make_key}
@@ -39,3 +40,8 @@ entries_read (Err fault) = []
 abbrev pub entries_there : Option (List ℕ) → List EntryValue
 entries_there None = []
 entries_there (Some bytes) = entries_read (entries_of xattr_item bytes)
+
+-- the item that has these entries, and none where there are none
+abbrev pub item_of : List EntryValue → Option (List ℕ)
+item_of [] = None
+item_of (entry ∷ entries) = Some (flat_map entry_bytes (entry ∷ entries))

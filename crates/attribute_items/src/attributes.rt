@@ -8,7 +8,7 @@ ghost use Rattle.blk_base.specs.Keys.{xattr_item};
 ghost use Rattle.block_table.specs.Table.{free_blocks};
 ghost use Rattle.tree_range.specs.Between.{data_under, data_view};
 ghost use Rattle.tree_range.specs.Shape.{IsTree, tree_items, tree_reach};
-ghost use Rattle.tree_frame.specs.Frame.{AreCurrent, with_item};
+ghost use Rattle.tree_frame.specs.Frame.{AreCurrent};
 ghost use Rattle.flat_model.specs.Lengths.{most_item_bytes, xattr_item_length};
 ghost use Rattle.flat_model.specs.Operations.{with_record};
 ghost use Rattle.flat_model.specs.Records.{InodeRecord, attributes_of, with_attributes};
@@ -16,16 +16,16 @@ ghost use Rattle.flat_model.specs.Volume.{Subvolume};
 ghost use Rattle.volume_image.specs.Subvolume.{make_key};
 ghost use Rattle.table_volume.specs.Edited.{Makes};
 ghost use Rattle.table_volume.specs.Gives.{GivesSubvolume, sub_reach};
-ghost use Rattle.attribute_items.specs.Edit.{IsItemsEdit, with_entries};
-ghost use Rattle.attribute_items.specs.Found.{entries_there, entry_size, others, value_of, written_entry};
+ghost use Rattle.item_edit.specs.ItemEdit.{IsItemEdit};
+ghost use Rattle.attribute_items.specs.Found.{entries_there, entry_size, item_of, others, value_of, written_entry};
 ghost use Rattle.attribute_items.specs.Given.{HasAttribute, TakesAttribute};
 
-use crate::edit::{drop_item, write_item};
 use crate::entries::{put_attribute, put_others, size_without, value_in};
 use blk_base::format::{MOST_ITEM_BYTES, XATTR_ITEM};
 use blk_base::limits::MOST_VALUE_BYTES;
 use blk_base::{Ino, Key, Name, Text, name_hash};
 use block_table::{BlockTable, SubState, Tree};
+use item_edit::{remove_item, write_item};
 
 /// The key of the item of an inode's attributes whose names have the hash of this one ("XATTR_ITEM").
 fn attribute_key(ino: Ino, name: &[u8]) -> Key
@@ -50,7 +50,7 @@ pub fn get_attribute<'t>(
         → data_view result ≡ get (attributes_of inode) name.now }
 {
     let name = name.as_bytes();
-    match cow_tree::get(table, &sub.tree, &attribute_key(ino, name)) {
+    match tree_range::get(table, &sub.tree, &attribute_key(ino, name)) {
         Some(bytes) => value_in(bytes, name),
         None => None,
     }
@@ -61,7 +61,7 @@ fn size_beside(table: &BlockTable, tree: &Tree, key: &Key, name: &[u8]) -> usize
     requires { IsTree table.now tree.now }
     ensures { result ≡ sum_by entry_size (others name.now (entries_there (data_under key.now (tree_items table.now tree.now)))) }
 {
-    match cow_tree::get(table, tree, key) {
+    match tree_range::get(table, tree, key) {
         Some(bytes) => size_without(bytes, name),
         None => 0,
     }
@@ -74,7 +74,7 @@ fn put_beside(table: &BlockTable, tree: &Tree, key: &Key, name: &[u8], into: &mu
     ensures end { result ≡ sum_by entry_size (others name.now (entries_there (data_under key.now (tree_items table.now tree.now)))) }
     ensures bytes { take result into.new ≡ flat_map entry_bytes (others name.now (entries_there (data_under key.now (tree_items table.now tree.now)))) }
 {
-    match cow_tree::get(table, tree, key) {
+    match tree_range::get(table, tree, key) {
         Some(bytes) => put_others(bytes, name, into),
         None => 0,
     }
@@ -107,9 +107,7 @@ fn put_value(
     requires room { sum_by entry_size (others name.now (entries_there (data_under key (tree_items table.old sub.old.tree))) ++ written_entry sub.old.running name.now value.now ∷ []) ≤ MOST_ITEM_BYTES }
     requires spare { 17 ≤ table.old.spare }
     requires free { 17 ≤ free_blocks table.old }
-    ensures edit { IsItemsEdit table.old table.new sub.old.tree sub.new.tree
-        (with_item key (flat_map entry_bytes (others name.now (entries_there (data_under key (tree_items table.old sub.old.tree))) ++ written_entry sub.old.running name.now value.now ∷ []))
-        (tree_items table.old sub.old.tree)) 17 }
+    ensures edit { IsItemEdit table.old table.new sub.old.tree sub.new.tree key (item_of (others name.now (entries_there (data_under key (tree_items table.old sub.old.tree))) ++ written_entry sub.old.running name.now value.now ∷ [])) }
     ensures state { sub.new ≡ record sub.old { tree = sub.new.tree } }
     ensures range { sub.old.running < 2 ^ 64 }
 {
@@ -149,14 +147,13 @@ fn drop_value(table: &mut BlockTable, sub: &mut SubState, key: Key, name: &Name)
     requires room { sum_by entry_size (others name.now (entries_there (data_under key (tree_items table.old sub.old.tree)))) ≤ MOST_ITEM_BYTES }
     requires spare { 17 ≤ table.old.spare }
     requires free { 17 ≤ free_blocks table.old }
-    ensures edit { IsItemsEdit table.old table.new sub.old.tree sub.new.tree
-        (with_entries key (others name.now (entries_there (data_under key (tree_items table.old sub.old.tree)))) (tree_items table.old sub.old.tree)) 17 }
+    ensures edit { IsItemEdit table.old table.new sub.old.tree sub.new.tree key (item_of (others name.now (entries_there (data_under key (tree_items table.old sub.old.tree))))) }
     ensures state { sub.new ≡ record sub.old { tree = sub.new.tree } }
 {
     let mut bytes = [0; MOST_ITEM_BYTES];
     let end = put_beside(table, &sub.tree, &key, name.as_bytes(), &mut bytes);
     if end == 0 {
-        drop_item(table, &mut sub.tree, &key);
+        remove_item(table, &mut sub.tree, key);
     } else {
         write_item(table, &mut sub.tree, key, &bytes[..end]);
     }

@@ -7,7 +7,6 @@
 #![tactic(auto)]
 
 mod attributes;
-mod edit;
 mod entries;
 
 pub use attributes::{get_attribute, is_crowded, remove_attribute, set_attribute};

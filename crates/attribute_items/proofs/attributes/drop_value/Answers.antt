@@ -10,11 +10,11 @@ use Rattle.flat_model.specs.Records.{InodeRecord, attributes_of}
 use Rattle.tree_range.specs.Between.{data_under}
 use Rattle.tree_range.specs.Shape.{tree_items, tree_reach}
 use Rattle.tree_range.proofs.Rise.{All-left}
-use Rattle.tree_frame.specs.Frame.{with_item, without_item}
 use Rattle.volume_image.specs.Subvolume.{make_key}
 use Rattle.table_volume.specs.Gives.{data_in, tree_data}
-use Rattle.attribute_items.specs.Edit.{IsItemsEdit, with_entries}
-use Rattle.attribute_items.specs.Found.{entries_there, entry_size, others, value_of, written_entry}
+use Rattle.item_edit.specs.ItemEdit.{IsItemEdit}
+use Rattle.attribute_items.specs.Found.{entries_there, entry_size, item_of, others, written_entry}
+use Rattle.attribute_items.proofs.Making.{item_some}
 use Rattle.attribute_items.proofs.Named.{none_sized}
 use Rattle.attribute_items.proofs.attributes.drop_value.Goals as goal
 
@@ -24,4 +24,13 @@ returns-then-end-eq0-clause-edit c =
     let found = entries_there (data_under c.args.key items) in
     let size = c.put_beside-end.ensures.end ∙ ap (λ (n : List ℕ). sum_by entry_size (others n found)) c.as_bytes.ensures.value in
     let none : others c.args.name.now found ≡ [] = none_sized (others c.args.name.now found) (sym size ∙ c.if-end-eq0.true) in
-    subst (λ (l : List EntryValue). IsItemsEdit c.args.table.now c.drop_item.new.table c.args.sub.now.tree c.drop_item.new.tree (with_entries c.args.key l items) 17) (sym none) c.drop_item.ensures
+    subst (λ (l : List EntryValue). IsItemEdit c.args.table.now c.remove_item.new.table c.args.sub.now.tree c.remove_item.new.tree c.args.key (item_of l)) (sym none) c.remove_item.ensures
+
+pub returns-else-end-eq0-clause-edit : goal.returns-else-end-eq0-clause-edit
+returns-else-end-eq0-clause-edit c =
+    let items = tree_items c.args.table.now c.args.sub.now.tree in
+    let found = entries_there (data_under c.args.key items) in
+    let size : c.put_beside-end.result ≡ sum_by entry_size (others c.args.name.now found) = c.put_beside-end.ensures.end ∙ ap (λ (n : List ℕ). sum_by entry_size (others n found)) c.as_bytes.ensures.value in
+    let kept : take c.put_beside-end.result c.put_beside-end.new.into ≡ flat_map entry_bytes (others c.args.name.now found) = c.put_beside-end.ensures.bytes ∙ ap (λ (n : List ℕ). flat_map entry_bytes (others n found)) c.as_bytes.ensures.value in
+    subst (λ (o : Option (List ℕ)). IsItemEdit c.args.table.now c.write_item.new.table c.args.sub.now.tree c.write_item.new.tree c.args.key o)
+    (ap (λ (b : List ℕ). Some b) kept ∙ sym (item_some (others c.args.name.now found) (λ none. c.if-end-eq0.false (size ∙ none)))) c.write_item.ensures

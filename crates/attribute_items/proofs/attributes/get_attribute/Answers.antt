@@ -11,7 +11,6 @@ use Rattle.table_volume.specs.Gives.{data_in}
 use Rattle.attribute_items.specs.Found.{entries_there, value_of}
 use Rattle.attribute_items.proofs.Hashed.{value_is}
 use Rattle.attribute_items.proofs.Items.{found_there}
-use Rattle.attribute_items.proofs.Making.{set_made}
 use Rattle.attribute_items.proofs.attributes.get_attribute.Goals as goal
 
 pub returns-in-None : goal.returns-in-None

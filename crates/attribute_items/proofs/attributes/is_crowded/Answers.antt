@@ -12,11 +12,10 @@ use Rattle.flat_model.specs.Records.{InodeRecord, attributes_of}
 use Rattle.tree_range.specs.Between.{data_under}
 use Rattle.tree_range.specs.Shape.{tree_items, tree_reach}
 use Rattle.tree_range.proofs.Rise.{All-left}
-use Rattle.tree_frame.specs.Frame.{with_item, without_item}
 use Rattle.volume_image.specs.Subvolume.{make_key}
 use Rattle.table_volume.specs.Gives.{data_in, tree_data}
-use Rattle.attribute_items.specs.Edit.{IsItemsEdit, with_entries}
-use Rattle.attribute_items.specs.Found.{entries_there, entry_size, others, value_of, written_entry}
+use Rattle.item_edit.specs.ItemEdit.{IsItemEdit}
+use Rattle.attribute_items.specs.Found.{entries_there, entry_size, item_of, others, written_entry}
 use Rattle.attribute_items.proofs.Items.{found_there}
 use Rattle.attribute_items.proofs.Making.{behind_size, same_answer, set_size}
 use Rattle.attribute_items.proofs.attributes.is_crowded.Goals as goal

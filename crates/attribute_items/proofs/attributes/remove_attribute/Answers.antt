@@ -10,11 +10,11 @@ use Rattle.flat_model.specs.Records.{InodeRecord, attributes_of}
 use Rattle.tree_range.specs.Between.{data_under}
 use Rattle.tree_range.specs.Shape.{tree_items, tree_reach}
 use Rattle.tree_range.proofs.Rise.{All-left}
-use Rattle.tree_frame.specs.Frame.{with_item, without_item}
 use Rattle.volume_image.specs.Subvolume.{make_key}
 use Rattle.table_volume.specs.Gives.{data_in, tree_data}
-use Rattle.attribute_items.specs.Edit.{IsItemsEdit, with_entries}
-use Rattle.attribute_items.specs.Found.{entries_there, entry_size, others, value_of, written_entry}
+use Rattle.item_edit.specs.ItemEdit.{IsItemEdit}
+use Rattle.attribute_items.specs.Found.{entries_there, entry_size, item_of, others, written_entry}
+use Rattle.block_table.specs.declared.tree.SubState.{SubState}
 use Rattle.attribute_items.proofs.Items.{found_there}
 use Rattle.attribute_items.proofs.Making.{item_there, less_size, removed_made}
 use Rattle.attribute_items.proofs.attributes.remove_attribute.Goals as goal
@@ -46,5 +46,5 @@ returns-clause-made c given inode gives there =
     let items = tree_items c.args.table.now c.args.sub.now.tree in
     let name = c.args.name.now in
     let key : c.attribute_key-key.result ≡ make_key c.args.ino.0 xattr_item (name_hash_of name) = c.attribute_key-key.ensures ∙ ap (λ (n : List ℕ). make_key c.args.ino.0 xattr_item (name_hash_of n)) c.as_bytes.ensures.value in
-    let edit = subst (λ (k : Key). IsItemsEdit c.args.table.now c.drop_value.new.table c.args.sub.now.tree c.drop_value.new.sub.tree (with_entries k (others name (entries_there (data_under k items))) items) 17) key c.drop_value.ensures.edit in
-    removed_made c.args.table.now c.drop_value.new.table c.args.sub.now c.drop_value.new.sub given c.args.ino.0 inode name gives there c.requires.current (ap (λ (s : Rattle.block_table.specs.declared.tree.SubState.SubState). s.running) c.drop_value.ensures.state) 17 edit
+    let edit = subst (λ (k : Key). IsItemEdit c.args.table.now c.drop_value.new.table c.args.sub.now.tree c.drop_value.new.sub.tree k (item_of (others name (entries_there (data_under k items))))) key c.drop_value.ensures.edit in
+    removed_made c.args.table.now c.drop_value.new.table c.args.sub.now c.drop_value.new.sub given c.args.ino.0 inode name gives there c.requires.current (ap (λ (s : SubState). s.running) c.drop_value.ensures.state) edit

@@ -10,13 +10,11 @@ use Rattle.flat_model.specs.Records.{InodeRecord, attributes_of}
 use Rattle.tree_range.specs.Between.{data_under}
 use Rattle.tree_range.specs.Shape.{tree_items, tree_reach}
 use Rattle.tree_range.proofs.Rise.{All-left}
-use Rattle.tree_frame.specs.Frame.{with_item, without_item}
 use Rattle.volume_image.specs.Subvolume.{make_key}
 use Rattle.table_volume.specs.Gives.{data_in, tree_data}
-use Rattle.attribute_items.specs.Edit.{IsItemsEdit, with_entries}
-use Rattle.attribute_items.specs.Found.{entries_there, entry_size, others, value_of, written_entry}
-use Rattle.block_table.specs.TreeIn.{block_at}
-use Rattle.block_table.specs.declared.state.SlotState.TheVariants.{LetGo}
+use Rattle.item_edit.specs.ItemEdit.{IsItemEdit}
+use Rattle.attribute_items.specs.Found.{entries_there, entry_size, item_of, others, written_entry}
+use Rattle.block_table.specs.declared.tree.SubState.{SubState}
 use Rattle.attribute_items.proofs.Items.{found_there}
 use Rattle.attribute_items.proofs.Making.{new_attribute, set_made, set_size}
 use Rattle.attribute_items.proofs.attributes.set_attribute.Goals as goal
@@ -39,6 +37,6 @@ returns-clause-made c given inode gives there =
     let name = c.args.name.now in
     let key : c.attribute_key-key.result ≡ make_key c.args.ino.0 xattr_item (name_hash_of name) = c.attribute_key-key.ensures ∙ ap (λ (n : List ℕ). make_key c.args.ino.0 xattr_item (name_hash_of n)) c.as_bytes.ensures.value in
     let new = written_entry c.args.sub.now.running name c.args.value.now in
-    let edit = subst (λ (k : Key). IsItemsEdit c.args.table.now c.put_value.new.table c.args.sub.now.tree c.put_value.new.sub.tree (with_item k (flat_map entry_bytes (others name (entries_there (data_under k items)) ++ new ∷ [])) items) 17) key c.put_value.ensures.edit in
-    set_made c.args.table.now c.put_value.new.table c.args.sub.now c.put_value.new.sub given c.args.ino.0 inode name gives there c.requires.current (ap (λ (s : Rattle.block_table.specs.declared.tree.SubState.SubState). s.running) c.put_value.ensures.state) c.args.value.now 17 edit
+    let edit = subst (λ (k : Key). IsItemEdit c.args.table.now c.put_value.new.table c.args.sub.now.tree c.put_value.new.sub.tree k (item_of (others name (entries_there (data_under k items)) ++ new ∷ []))) key c.put_value.ensures.edit in
+    set_made c.args.table.now c.put_value.new.table c.args.sub.now c.put_value.new.sub given c.args.ino.0 inode name gives there c.requires.current (ap (λ (s : SubState). s.running) c.put_value.ensures.state) c.args.value.now edit
     (new_attribute c.args.sub.now.running name c.args.value.now c.put_value.ensures.range c.as_bytes.ensures.name (omega (arith, c.requires.short)))
