@@ -96,7 +96,7 @@ asked_in attributes hash e c =
 pub are_attributes : (bytes : List ℕ) (attributes : Attributes) (hash : ℕ) (has : HasEntries xattr_item bytes (asked attributes hash)) → AreAttributes has.found attributes hash
 are_attributes bytes attributes hash has =
     let here : (e : EntryValue) → Contains has.found e → IsAsked attributes hash (without_transid e) = λ e c.
-        asked_in attributes hash (without_transid e) (Contains-permutation (map without_transid has.found) (asked attributes hash) (without_transid e) has.same (map_in without_transid has.found e c)) in
+    asked_in attributes hash (without_transid e) (Contains-permutation (map without_transid has.found) (asked attributes hash) (without_transid e) has.same (map_in without_transid has.found e c)) in
     record {
       only = λ e c. let at = here e c in (at.has, at.is);
       all = λ name value h is.
@@ -189,10 +189,13 @@ differ_less : {X : Type 0} (front : List X) (x : X) (back : List X) → Differ (
 differ_less [] x back d = (d.1, d.0)
 differ_less {X} (y ∷ front) x back d =
     let rest = differ_less front x back d.1 in (
-      (λ c. elim (Contains-append_cases front back y c) [
-        | inl early ↦ d.0 (Contains-append_left front (x ∷ back) y early)
-        | inr late ↦ d.0 (Contains-append_right front (x ∷ back) y (tail_in x y back late))
-      ], rest.0),
+      (
+        λ c. elim (Contains-append_cases front back y c) [
+          | inl early ↦ d.0 (Contains-append_left front (x ∷ back) y early)
+          | inr late ↦ d.0 (Contains-append_right front (x ∷ back) y (tail_in x y back late))
+        ],
+        rest.0,
+      ),
       λ c. elim (in_cons y x (front ++ back) c) [
         | inl here ↦ d.0 (Contains-append_right front (x ∷ back) y (subst (λ (z : X). Contains (x ∷ back) z) (sym here) (head_in x back)))
         | inr there ↦ rest.1 there
@@ -208,22 +211,22 @@ by_members {X} (x ∷ xs) ys dx dy there back =
     let rear = cut.1 in
     let less = differ_less front x rear (subst (λ (l : List X). Differ l) cut.2 dy) in
     let go : (z : X) → Contains xs z → Contains (front ++ rear) z = λ z c.
-        elim (Contains-append_cases front (x ∷ rear) z (subst (λ (l : List X). Contains l z) cut.2 (there z (tail_in x z xs c)))) [
-          | inl early ↦ Contains-append_left front rear z early
-          | inr late ↦ elim (in_cons x z rear late) [
-            | inl same ↦ absurd (dx.0 (subst (λ (w : X). Contains xs w) (sym same) c))
-            | inr behind ↦ Contains-append_right front rear z behind
-          ]
-        ] in
+    elim (Contains-append_cases front (x ∷ rear) z (subst (λ (l : List X). Contains l z) cut.2 (there z (tail_in x z xs c)))) [
+      | inl early ↦ Contains-append_left front rear z early
+      | inr late ↦ elim (in_cons x z rear late) [
+        | inl same ↦ absurd (dx.0 (subst (λ (w : X). Contains xs w) (sym same) c))
+        | inr behind ↦ Contains-append_right front rear z behind
+      ]
+    ] in
     let come : (z : X) → Contains (front ++ rear) z → Contains xs z = λ z c.
-        let all : Contains (front ++ x ∷ rear) z = elim (Contains-append_cases front rear z c) [
-          | inl early ↦ Contains-append_left front (x ∷ rear) z early
-          | inr late ↦ Contains-append_right front (x ∷ rear) z (tail_in x z rear late)
-        ] in
-        elim (in_cons x z xs (back z (subst (λ (l : List X). Contains l z) (sym cut.2) all))) [
-          | inl same ↦ absurd (less.1 (subst (λ (w : X). Contains (front ++ rear) w) (sym same) c))
-          | inr behind ↦ behind
-        ] in
+    let all : Contains (front ++ x ∷ rear) z = elim (Contains-append_cases front rear z c) [
+      | inl early ↦ Contains-append_left front (x ∷ rear) z early
+      | inr late ↦ Contains-append_right front (x ∷ rear) z (tail_in x z rear late)
+    ] in
+    elim (in_cons x z xs (back z (subst (λ (l : List X). Contains l z) (sym cut.2) all))) [
+      | inl same ↦ absurd (less.1 (subst (λ (w : X). Contains (front ++ rear) w) (sym same) c))
+      | inr behind ↦ behind
+    ] in
     let rest = by_members xs (front ++ rear) dx.1 less.0 go come in
     subst (λ (l : List X). IsPermutation (x ∷ xs) l) (sym cut.2)
     (IsPermutation-trans (x ∷ xs) (x ∷ (front ++ rear)) (front ++ x ∷ rear) (IsPermutation-cons x xs (front ++ rear) rest) (IsPermutation-sym (front ++ x ∷ rear) (x ∷ (front ++ rear)) (IsPermutation-middle front x rear)))
@@ -258,12 +261,12 @@ differ_asked p (e ∷ es) s =
     let rest = differ_asked p es parts.1 in
     elim (cases_Bool (p e)) [
       | inl kept ↦ rw kept (
-          λ c.
-              let from = in_map attribute_entry (filter p es) (attribute_entry e) c in
-              let less = name_below e.0 es from.0 parts.0 (in_filter p es from.0 from.1).0 in
-              no_less_itself e.0 (subst (λ (k : List ℕ). name_order e.0 k ≡ Less) (ap (λ (x : EntryValue). x.name) from.2) less),
-          rest,
-        )
+        λ c.
+            let from = in_map attribute_entry (filter p es) (attribute_entry e) c in
+            let less = name_below e.0 es from.0 parts.0 (in_filter p es from.0 from.1).0 in
+            no_less_itself e.0 (subst (λ (k : List ℕ). name_order e.0 k ≡ Less) (ap (λ (x : EntryValue). x.name) from.2) less),
+        rest,
+      )
       | inr gone ↦ rw gone rest
     ]
 
@@ -278,15 +281,15 @@ pub are_asked : (found : List EntryValue) (attributes : Attributes) (hash : ℕ)
 are_asked found attributes hash are = by_members (map without_transid found) (asked attributes hash) (differ_found found are.once)
     (differ_asked (has_hash hash) (entries attributes) (entries_sorted attributes))
     (λ x c.
-        let from = in_map without_transid found x c in
-        let has = are.only from.0 from.1 in
-        subst (λ (y : EntryValue). Contains (asked attributes hash) y) (sym (are.plain from.0 from.1) ∙ from.2) (in_asked attributes hash from.0.name from.0.value has.0 has.1))
+    let from = in_map without_transid found x c in
+    let has = are.only from.0 from.1 in
+    subst (λ (y : EntryValue). Contains (asked attributes hash) y) (sym (are.plain from.0 from.1) ∙ from.2) (in_asked attributes hash from.0.name from.0.value has.0 has.1))
     (λ x c.
-        let at = asked_in attributes hash x c in
-        let from = are.all x.name x.value at.has at.is in
-        let value : from.0.value ≡ x.value = some_value from.0.value x.value (sym (are.only from.0 from.1).0 ∙ ap (get attributes) from.2 ∙ at.has) in
-        let same : without_transid from.0 ≡ x = are.plain from.0 from.1 ∙ (λ i. attribute_entry (from.2 i, value i)) ∙ sym at.plain in
-        subst (λ (y : EntryValue). Contains (map without_transid found) y) same (map_in without_transid found from.0 from.1))
+    let at = asked_in attributes hash x c in
+    let from = are.all x.name x.value at.has at.is in
+    let value : from.0.value ≡ x.value = some_value from.0.value x.value (sym (are.only from.0 from.1).0 ∙ ap (get attributes) from.2 ∙ at.has) in
+    let same : without_transid from.0 ≡ x = are.plain from.0 from.1 ∙ (λ i. attribute_entry (from.2 i, value i)) ∙ sym at.plain in
+    subst (λ (y : EntryValue). Contains (map without_transid found) y) same (map_in without_transid found from.0 from.1))
 
 -- ---- and have the bytes that are counted
 

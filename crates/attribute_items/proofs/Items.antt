@@ -58,7 +58,7 @@ found_there items blocks sub ino hash inode rise are record_is None h =
     let key = make_key ino xattr_item hash in
     let same = record_there sub ino hash inode record_is in
     let none : asked (attributes_of inode) hash ≡ [] = none_or_some (asked (attributes_of inode) hash) (asked (attributes_of inode) hash ≡ [])
-        (λ some. let has = are.attributes ino hash (λ e. some (sym same ∙ e)) in absurd (no_bytes has.0 (sym h ∙ found_under items key has.0 rise has.1))) (λ e. e) in
+    (λ some. let has = are.attributes ino hash (λ e. some (sym same ∙ e)) in absurd (no_bytes has.0 (sym h ∙ found_under items key has.0 rise has.1))) (λ e. e) in
     record { are = none_asked (attributes_of inode) hash none; each = tt; spelled = λ bytes e. absurd (no_bytes bytes e) }
   where
     no_bytes : (bytes : List ℕ) → None ≡ Some bytes → ⊥

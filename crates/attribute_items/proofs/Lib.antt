@@ -4,3 +4,4 @@ pub mod Spelled
 pub mod Items
 pub mod Changed
 pub mod Making
+pub mod Short

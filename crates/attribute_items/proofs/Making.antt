@@ -35,7 +35,7 @@ use Rattle.table_volume.specs.Edited.{HadEntry, Makes}
 use Rattle.table_volume.specs.Gives.{GivesSubvolume, data_in, sub_reach}
 use Rattle.table_volume.specs.Keyed.{DoesAsk, AsksInode, AsksRefs, AsksExtRefs, AsksAttributes, AsksHashed, AsksIndexed, AsksTarget, HoldsKey}
 use Rattle.item_edit.specs.ItemEdit.{BearsUnder, IsItemEdit}
-use Rattle.attribute_items.specs.Found.{IsAttribute, entries_there, entry_size, item_of, others, written_entry}
+use Rattle.attribute_items.specs.Found.{IsAttribute, entries_there, entry_size, item_of, others, value_of, written_entry}
 use Rattle.attribute_items.proofs.Changed.{attributes_now, changed, makes}
 use Rattle.attribute_items.proofs.Hashed.{AreAttributes, are_asked, asked, asked_in, found_size, gone_attributes, gone_other, set_attributes, set_other}
 use Rattle.attribute_items.proofs.Items.{AreFound, found_there, record_there}
@@ -73,21 +73,9 @@ written_behind kept e =
     ap (λ (l : List ℕ). flat_map entry_bytes kept ++ l) (sym (append-nil (entry_bytes e))) ∙ sym (flat_map-append entry_bytes kept (e ∷ []))
 
 -- the item of an attribute that is there
-pub item_there : (there : Option (List ℕ)) (found : List EntryValue) (inode : InodeRecord) (name : List ℕ) → AreFound there found inode (name_hash_of name) → found ≡ entries_there there → IsSome (get (attributes_of inode) name) → IsSome there
-item_there (Some bytes) found inode name is same has = refl
-item_there None found inode name is same has = absurd (by (get (attributes_of inode) name) refl has)
-  where
-    by : (o : Option (List ℕ)) → get (attributes_of inode) name ≡ o → IsSome o → ⊥
-    by None h some = true≢false (sym some)
-    by (Some value) h some = let at = is.are.all name value h refl in in_nothing at.0 (subst (λ (l : List EntryValue). Contains l at.0) same at.1)
-
--- an item keeps at most its bytes without an attribute
-pub less_size : (there : Option (List ℕ)) (found : List EntryValue) (inode : InodeRecord) (name : List ℕ) → AreFound there found inode (name_hash_of name)
-    → sum_by entry_size (others name found) ≤ xattr_item_length (attributes_of inode) (name_hash_of name)
-less_size there found inode name is =
-    let whole = found_size found (attributes_of inode) (name_hash_of name) is.are in
-    let less = sum_filter_le entry_size (λ e. not (bytes_eq e.name name)) found in
-    omega (arith, whole, less)
+pub item_there : (there : Option (List ℕ)) (name : List ℕ) → IsSome (value_of name (entries_there there)) → IsSome there
+item_there (Some bytes) name has = refl
+item_there None name has = has
 
 -- ---- what is asked for under the key
 

@@ -1,29 +1,19 @@
--- Subvolumes that a tree gives, in which an inode has an attribute or may get one.
-use Rattle.std.specs.Prelude.{◌≡◌, ◌≤◌, ℕ, List, Some, IsSome, length}
-use Rattle.std.specs.FinMap.{get, insert}
+-- The attributes of an inode in a tree, and the bytes that the item of one takes.
+use Rattle.std.specs.Prelude.{◌+◌, ℕ, List, length, sum_by}
 use Rattle.blk_base.specs.Crc.{name_hash_of}
+use Rattle.blk_base.specs.Entries.{EntryValue}
+use Rattle.blk_base.specs.Keys.{xattr_item}
 use Rattle.block_table.specs.declared.tree.Tree.{Tree}
 use Rattle.block_table.specs.Table.{Table}
-use Rattle.flat_model.specs.Lengths.{most_item_bytes, xattr_item_length}
-use Rattle.flat_model.specs.Records.{InodeRecord, attributes_of}
-use Rattle.flat_model.specs.Volume.{Subvolume}
-use Rattle.table_volume.specs.Gives.{GivesSubvolume}
+use Rattle.tree_range.specs.Between.{data_under}
+use Rattle.tree_range.specs.Shape.{tree_items}
+use Rattle.volume_image.specs.Subvolume.{make_key}
+use Rattle.attribute_items.specs.Found.{entries_there, entry_size, others}
 
--- The tree gives a subvolume that has the inode, and the item of the attribute's name has room for it with this value, in
--- place of the one that it has ("XATTR_ITEM").
-pub record TakesAttribute (table : Table) (tree : Tree) (ino : ℕ) (name value : List ℕ) : Type 0 where
-  pub sub : Subvolume
-  pub inode : InodeRecord
-  pub gives : GivesSubvolume table tree sub
-  pub there : get sub.inodes ino ≡ Some inode
-  pub fits : xattr_item_length (insert (attributes_of inode) name value) (name_hash_of name) ≤ most_item_bytes
+-- the entries of the inode's item that has the attribute of this name, if one has it ("XATTR_ITEM": key offset)
+abbrev pub entries_at : Table → Tree → ℕ → List ℕ → List EntryValue
+entries_at table tree ino name = entries_there (data_under (make_key ino xattr_item (name_hash_of name)) (tree_items table tree))
 
--- The tree gives a subvolume in which the inode has the attribute, and the item of its name is no longer than a leaf holds
--- ("XATTR_ITEM").
-pub record HasAttribute (table : Table) (tree : Tree) (ino : ℕ) (name : List ℕ) : Type 0 where
-  pub sub : Subvolume
-  pub inode : InodeRecord
-  pub gives : GivesSubvolume table tree sub
-  pub there : get sub.inodes ino ≡ Some inode
-  pub has : IsSome (get (attributes_of inode) name)
-  pub fits : xattr_item_length (attributes_of inode) (name_hash_of name) ≤ most_item_bytes
+-- the bytes of that item with this value of the attribute
+abbrev pub size_with : Table → Tree → ℕ → List ℕ → List ℕ → ℕ
+size_with table tree ino name value = sum_by entry_size (others name (entries_at table tree ino name)) + (30 + length name + length value)

@@ -18,7 +18,7 @@ ghost use Rattle.table_volume.specs.Edited.{Makes};
 ghost use Rattle.table_volume.specs.Gives.{GivesSubvolume, sub_reach};
 ghost use Rattle.item_edit.specs.ItemEdit.{IsItemEdit};
 ghost use Rattle.attribute_items.specs.Found.{entries_there, entry_size, item_of, others, value_of, written_entry};
-ghost use Rattle.attribute_items.specs.Given.{HasAttribute, TakesAttribute};
+ghost use Rattle.attribute_items.specs.Given.{entries_at, size_with};
 
 use crate::entries::{put_attribute, put_others, size_without, value_in};
 use blk_base::format::{MOST_ITEM_BYTES, XATTR_ITEM};
@@ -46,8 +46,9 @@ pub fn get_attribute<'t>(
     name: &Name,
 ) -> Option<&'t [u8]>
     requires { IsTree table.now sub.now.tree }
-    ensures { (given : Subvolume) (inode : InodeRecord) → GivesSubvolume table.now sub.now.tree given → get given.inodes ino.0 ≡ Some inode
+    ensures value { (given : Subvolume) (inode : InodeRecord) → GivesSubvolume table.now sub.now.tree given → get given.inodes ino.0 ≡ Some inode
         → data_view result ≡ get (attributes_of inode) name.now }
+    ensures entry { data_view result ≡ value_of name.now (entries_at table.now sub.now.tree ino.0 name.now) }
 {
     let name = name.as_bytes();
     match tree_range::get(table, &sub.tree, &attribute_key(ino, name)) {
@@ -59,7 +60,8 @@ pub fn get_attribute<'t>(
 /// The bytes of the entries beside that of a name in the item under a key.
 fn size_beside(table: &BlockTable, tree: &Tree, key: &Key, name: &[u8]) -> usize
     requires { IsTree table.now tree.now }
-    ensures { result ≡ sum_by entry_size (others name.now (entries_there (data_under key.now (tree_items table.now tree.now)))) }
+    ensures value { result ≡ sum_by entry_size (others name.now (entries_there (data_under key.now (tree_items table.now tree.now)))) }
+    ensures short { result ≤ MOST_ITEM_BYTES }
 {
     match tree_range::get(table, tree, key) {
         Some(bytes) => size_without(bytes, name),
@@ -85,7 +87,8 @@ fn put_beside(table: &BlockTable, tree: &Tree, key: &Key, name: &[u8], into: &mu
 pub fn is_crowded(table: &BlockTable, sub: &SubState, ino: Ino, name: &Name, value: &Text) -> bool
     requires tree { IsTree table.now sub.now.tree }
     requires short { length value.now ≤ MOST_VALUE_BYTES }
-    ensures { (given : Subvolume) (inode : InodeRecord) → GivesSubvolume table.now sub.now.tree given → get given.inodes ino.0 ≡ Some inode
+    ensures size { result ≡ nat_lt MOST_ITEM_BYTES (size_with table.now sub.now.tree ino.0 name.now value.now) }
+    ensures crowded { (given : Subvolume) (inode : InodeRecord) → GivesSubvolume table.now sub.now.tree given → get given.inodes ino.0 ≡ Some inode
         → result ≡ nat_lt most_item_bytes (xattr_item_length (insert (attributes_of inode) name.now value.now) (name_hash_of name.now)) }
 {
     let bytes = name.as_bytes();
@@ -94,13 +97,7 @@ pub fn is_crowded(table: &BlockTable, sub: &SubState, ino: Ino, name: &Name, val
 }
 
 /// The item of a tree's attributes under a key, with this value of an attribute in place of the one that it has.
-fn put_value(
-    table: &mut BlockTable,
-    sub: &mut SubState,
-    key: Key,
-    name: &Name,
-    value: &Text,
-)
+fn put_value(table: &mut BlockTable, sub: &mut SubState, key: Key, name: &Name, value: &Text)
     requires tree { IsTree table.old sub.old.tree }
     requires current { AreCurrent table.old (tree_reach table.old sub.old.tree) }
     requires short { length value.now ≤ MOST_VALUE_BYTES }
@@ -126,7 +123,8 @@ pub fn set_attribute(
     name: &Name,
     value: &Text,
 )
-    requires given { TakesAttribute table.old sub.old.tree ino.0 name.now value.now }
+    requires tree { IsTree table.old sub.old.tree }
+    requires room { size_with table.old sub.old.tree ino.0 name.now value.now ≤ MOST_ITEM_BYTES }
     requires current { AreCurrent table.old (sub_reach table.old sub.old.tree) }
     requires short { length value.now ≤ MOST_VALUE_BYTES }
     requires spare { 17 ≤ table.old.spare }
@@ -144,25 +142,25 @@ fn drop_value(table: &mut BlockTable, sub: &mut SubState, key: Key, name: &Name)
     requires tree { IsTree table.old sub.old.tree }
     requires current { AreCurrent table.old (tree_reach table.old sub.old.tree) }
     requires present { IsSome (data_under key (tree_items table.old sub.old.tree)) }
-    requires room { sum_by entry_size (others name.now (entries_there (data_under key (tree_items table.old sub.old.tree)))) ≤ MOST_ITEM_BYTES }
     requires spare { 17 ≤ table.old.spare }
     requires free { 17 ≤ free_blocks table.old }
     ensures edit { IsItemEdit table.old table.new sub.old.tree sub.new.tree key (item_of (others name.now (entries_there (data_under key (tree_items table.old sub.old.tree))))) }
     ensures state { sub.new ≡ record sub.old { tree = sub.new.tree } }
 {
+    if size_beside(table, &sub.tree, &key, name.as_bytes()) == 0 {
+        remove_item(table, &mut sub.tree, key);
+        return;
+    }
     let mut bytes = [0; MOST_ITEM_BYTES];
     let end = put_beside(table, &sub.tree, &key, name.as_bytes(), &mut bytes);
-    if end == 0 {
-        remove_item(table, &mut sub.tree, key);
-    } else {
-        write_item(table, &mut sub.tree, key, &bytes[..end]);
-    }
+    write_item(table, &mut sub.tree, key, &bytes[..end]);
 }
 
 /// Takes an attribute of an inode away, which has it; an item without another entry goes with it ("XATTR_ITEM" of the
 /// on-disk format). It takes 17 blocks and buffers at most.
 pub fn remove_attribute(table: &mut BlockTable, sub: &mut SubState, ino: Ino, name: &Name)
-    requires given { HasAttribute table.old sub.old.tree ino.0 name.now }
+    requires tree { IsTree table.old sub.old.tree }
+    requires there { IsSome (value_of name.now (entries_at table.old sub.old.tree ino.0 name.now)) }
     requires current { AreCurrent table.old (sub_reach table.old sub.old.tree) }
     requires spare { 17 ≤ table.old.spare }
     requires free { 17 ≤ free_blocks table.old }

@@ -52,7 +52,8 @@ fn size_among(entries: Entries<'_>, name: &[u8], most: usize) -> usize
 
 /// The same of an item's bytes; 0 where they aren't entries.
 pub(crate) fn size_without(bytes: &[u8], name: &[u8]) -> usize
-    ensures { result ≡ sum_by entry_size (others name.now (entries_read (entries_of xattr_item bytes.now))) }
+    ensures value { result ≡ sum_by entry_size (others name.now (entries_read (entries_of xattr_item bytes.now))) }
+    ensures within { result ≤ length bytes.now }
 {
     match Entries::open(XATTR_ITEM, bytes) {
         Ok(entries) => size_among(entries, name, bytes.len()),

@@ -8,5 +8,7 @@
 
 mod attributes;
 mod entries;
+#[cfg(test)]
+mod tests;
 
 pub use attributes::{get_attribute, is_crowded, remove_attribute, set_attribute};

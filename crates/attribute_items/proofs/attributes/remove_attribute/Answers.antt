@@ -15,31 +15,15 @@ use Rattle.table_volume.specs.Gives.{data_in, tree_data}
 use Rattle.item_edit.specs.ItemEdit.{IsItemEdit}
 use Rattle.attribute_items.specs.Found.{entries_there, entry_size, item_of, others, written_entry}
 use Rattle.block_table.specs.declared.tree.SubState.{SubState}
-use Rattle.attribute_items.proofs.Items.{found_there}
-use Rattle.attribute_items.proofs.Making.{item_there, less_size, removed_made}
+use Rattle.attribute_items.proofs.Making.{item_there, removed_made}
 use Rattle.attribute_items.proofs.attributes.remove_attribute.Goals as goal
-
-pub drop_value-requires-clause-room : goal.drop_value-requires-clause-room
-drop_value-requires-clause-room c =
-    let items = tree_items c.args.table.now c.args.sub.now.tree in
-    let name = c.args.name.now in
-    let key : c.attribute_key-key.result ≡ make_key c.args.ino.0 xattr_item (name_hash_of name) = c.attribute_key-key.ensures ∙ ap (λ (n : List ℕ). make_key c.args.ino.0 xattr_item (name_hash_of n)) c.as_bytes.ensures.value in
-    let given = c.requires.given in
-    let there_is : Option (List ℕ) = data_under (make_key c.args.ino.0 xattr_item (name_hash_of name)) items in
-    let found = found_there items (data_in c.args.table.now) given.sub c.args.ino.0 (name_hash_of name) given.inode given.gives.tree_in.order given.gives.items given.there there_is refl in
-    let less = less_size there_is (entries_there there_is) given.inode name found in
-    let fits : sum_by entry_size (others name (entries_there there_is)) ≤ 3970 = omega (arith, less, given.fits) in
-    subst (λ (k : Key). sum_by entry_size (others name (entries_there (data_under k items))) ≤ 3970) (sym key) fits
 
 pub drop_value-requires-clause-present : goal.drop_value-requires-clause-present
 drop_value-requires-clause-present c =
     let items = tree_items c.args.table.now c.args.sub.now.tree in
     let name = c.args.name.now in
     let key : c.attribute_key-key.result ≡ make_key c.args.ino.0 xattr_item (name_hash_of name) = c.attribute_key-key.ensures ∙ ap (λ (n : List ℕ). make_key c.args.ino.0 xattr_item (name_hash_of n)) c.as_bytes.ensures.value in
-    let given = c.requires.given in
-    let there_is : Option (List ℕ) = data_under (make_key c.args.ino.0 xattr_item (name_hash_of name)) items in
-    let found = found_there items (data_in c.args.table.now) given.sub c.args.ino.0 (name_hash_of name) given.inode given.gives.tree_in.order given.gives.items given.there there_is refl in
-    subst (λ (k : Key). IsSome (data_under k items)) (sym key) (item_there there_is (entries_there there_is) given.inode name found refl given.has)
+    subst (λ (k : Key). IsSome (data_under k items)) (sym key) (item_there (data_under (make_key c.args.ino.0 xattr_item (name_hash_of name)) items) name c.requires.there)
 
 pub returns-clause-made : goal.returns-clause-made
 returns-clause-made c given inode gives there =

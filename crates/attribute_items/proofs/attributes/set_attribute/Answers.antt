@@ -15,8 +15,8 @@ use Rattle.table_volume.specs.Gives.{data_in, tree_data}
 use Rattle.item_edit.specs.ItemEdit.{IsItemEdit}
 use Rattle.attribute_items.specs.Found.{entries_there, entry_size, item_of, others, written_entry}
 use Rattle.block_table.specs.declared.tree.SubState.{SubState}
-use Rattle.attribute_items.proofs.Items.{found_there}
-use Rattle.attribute_items.proofs.Making.{new_attribute, set_made, set_size}
+use Rattle.attribute_items.specs.Given.{entries_at}
+use Rattle.attribute_items.proofs.Making.{behind_size, new_attribute, set_made}
 use Rattle.attribute_items.proofs.attributes.set_attribute.Goals as goal
 
 pub put_value-requires-clause-room : goal.put_value-requires-clause-room
@@ -24,11 +24,9 @@ put_value-requires-clause-room c =
     let items = tree_items c.args.table.now c.args.sub.now.tree in
     let name = c.args.name.now in
     let key : c.attribute_key-key.result ≡ make_key c.args.ino.0 xattr_item (name_hash_of name) = c.attribute_key-key.ensures ∙ ap (λ (n : List ℕ). make_key c.args.ino.0 xattr_item (name_hash_of n)) c.as_bytes.ensures.value in
-    let given = c.requires.given in
-    let there_is : Option (List ℕ) = data_under (make_key c.args.ino.0 xattr_item (name_hash_of name)) items in
-    let found = found_there items (data_in c.args.table.now) given.sub c.args.ino.0 (name_hash_of name) given.inode given.gives.tree_in.order given.gives.items given.there there_is refl in
-    let whole = set_size there_is (entries_there there_is) given.inode c.args.sub.now.running name c.args.value.now found in
-    let fits : sum_by entry_size (others name (entries_there there_is) ++ written_entry c.args.sub.now.running name c.args.value.now ∷ []) ≤ 3970 = omega (arith, whole, given.fits) in
+    let kept = entries_at c.args.table.now c.args.sub.now.tree c.args.ino.0 name in
+    let behind = behind_size (others name kept) (written_entry c.args.sub.now.running name c.args.value.now) in
+    let fits : sum_by entry_size (others name kept ++ written_entry c.args.sub.now.running name c.args.value.now ∷ []) ≤ 3970 = omega (arith, behind, c.requires.room) in
     subst (λ (k : Key). sum_by entry_size (others name (entries_there (data_under k items)) ++ written_entry c.args.sub.now.running name c.args.value.now ∷ []) ≤ 3970) (sym key) fits
 
 pub returns-clause-made : goal.returns-clause-made

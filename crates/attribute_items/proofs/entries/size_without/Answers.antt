@@ -14,3 +14,10 @@ size_among-requires c =
     let size = ap length is.spelled ∙ spelled_size c.in-Ok.entries in
     let less = sum_filter_le entry_size (λ e. not (bytes_eq e.name c.args.name.now)) c.in-Ok.entries in
     omega (arith, size, less)
+
+pub returns-in-Ok-clause-within : goal.returns-in-Ok-clause-within
+returns-in-Ok-clause-within c =
+    let is = entries_from xattr_item c.args.bytes.now c.in-Ok.entries (λ i. let h = c.type_inv.bytes i in omega arith) (sym c.in-Ok.ensures) in
+    let size = ap length is.spelled ∙ spelled_size c.in-Ok.entries in
+    let less = sum_filter_le entry_size (λ e. not (bytes_eq e.name c.args.name.now)) c.in-Ok.entries in
+    omega (arith, size, less, c.size_among.ensures)
