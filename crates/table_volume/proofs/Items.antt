@@ -60,10 +60,10 @@ is_below key item = key_below item.0 key
 abbrev is_above : Key → Item → Bool
 is_above key item = key_below key item.0
 
-not_itself : (key : Key) → key_below key key ≡ false
+pub not_itself : (key : Key) → key_below key key ≡ false
 not_itself key = false_from_ne_true (key_below key key) (λ k. KeyBelow_irrefl key (key_below_means key key k))
 
-not_both : (a b : Key) → KeyBelow a b → key_below b a ≡ false
+pub not_both : (a b : Key) → KeyBelow a b → key_below b a ≡ false
 not_both a b h = false_from_ne_true (key_below b a) (λ k. KeyBelow_irrefl a (KeyBelow_trans a b a h (key_below_means b a k)))
 
 -- an item with a key is judged as the key is
@@ -78,12 +78,12 @@ own_above : (key : Key) (items : List Item) → data_under key (filter (is_above
 own_above key items =
     under_out key (is_above key) items (judged key (λ (k : Key). key_below key k) false (not_itself key))
 
-data Side (other key : Key) : Type 0 where
+pub data Side (other key : Key) : Type 0 where
   Lower : KeyBelow other key → Side other key
   Same : other ≡ key → Side other key
   Upper : KeyBelow key other → Side other key
 
-side : (other key : Key) → Side other key
+pub side : (other key : Key) → Side other key
 side other key = by (key_cmp other key) refl
   where
     by : (o : Ordering) → key_cmp other key ≡ o → Side other key

@@ -1,0 +1,10 @@
+pub mod Perms
+pub mod NameLists
+pub mod Held
+pub mod UnderKeys
+pub mod AskedLists
+pub mod Inodes
+pub mod Adding
+pub mod Steps
+pub mod AddedName
+pub mod Found
