@@ -1,6 +1,9 @@
 -- What is found under a key is what the subvolume asks for there.
-use Rattle.std.proofs.Common.{◌≡◌, ◌≢◌, ℕ, List, [], ◌∷◌, Option, Some, None, map, IsPermutation, refl, sym, subst}
-use Rattle.std.specs.Prelude.{Contains, IsSome}
+use Rattle.std.proofs.Common.{◌≡◌, ◌≢◌, ℕ, List, [], ◌∷◌, Option, Some, None, map, IsPermutation, refl, sym, subst, Fits, w8, get_or, arith}
+use Rattle.std.specs.Prelude.{All, Contains, IsSome}
+use Rattle.std.specs.List.{AllByRecursion}
+use Rattle.std.proofs.lemmas.List.Elements.{All-cons, All-nil}
+use Rattle.blk_base.specs.Bytes.{IsBytes}
 use Rattle.std.proofs.lemmas.Bool.{true≢false}
 use Rattle.std.proofs.lemmas.List.Sorted.{IsPermutation-refl}
 use Rattle.std.specs.FinMap.{get}
@@ -101,3 +104,14 @@ module _ (table : Table) (tree : Tree) (sub : Subvolume) (gives : GivesSubvolume
 
   pub inode_nowhere : (ino : ℕ) → data_under (make_key ino inode_item 0) (tree_items table tree) ≡ None → get sub.inodes ino ≡ None
   inode_nowhere ino none = no_inode (get sub.inodes ino) _ none (λ inode there. (under (make_key ino inode_item 0)).all (AsksInode inode refl refl there))
+
+-- ---- lists
+
+-- the bytes of a slice are bytes
+pub are_bytes : (bytes : List ℕ) → ((i : ℕ) → Fits w8 (get_or bytes i 0)) → IsBytes bytes
+are_bytes bytes each i = let h = each i in omega arith
+
+-- what holds of each element by recursion holds of all
+pub all_of : {X : Type 0} (P : X → Type 0) (xs : List X) → AllByRecursion P xs → All P xs
+all_of P [] each = All-nil P
+all_of P (x ∷ xs) each = All-cons P x xs each.0 (all_of P xs each.1)

@@ -1,6 +1,7 @@
 //! The items of names and inodes in a subvolume's tree, by one search each.
-ghost use Rattle.std.specs.Prelude.{◌≡◌, ℕ, [], List, Some, None, IsPermutation, MatchOption, map, unwrap_or};
+ghost use Rattle.std.specs.Prelude.{◌≡◌, ℕ, [], All, List, Some, None, IsPermutation, MatchOption, map, unwrap_or};
 ghost use Rattle.blk_base.specs.Entries.{EntryValue, ExtRefValue, RefValue, IsEntries, IsExtRefs, IsRefs};
+ghost use Rattle.blk_base.specs.Name.{IsName};
 ghost use Rattle.blk_base.specs.Keys.{dir_item, inode_item, inode_ref, inode_extref};
 ghost use Rattle.flat_model.specs.Volume.{Subvolume};
 ghost use Rattle.table_volume.specs.Gives.{GivesSubvolume};
@@ -84,7 +85,8 @@ pub(crate) fn extref_bytes<'t>(
 
 /// The entries that an item of a directory spells.
 fn entries_in(bytes: &[u8]) -> Option<Entries<'_>>
-    ensures { (found : List EntryValue) → IsEntries dir_item bytes.now found → result ≡ Some found }
+    ensures spelled { (found : List EntryValue) → IsEntries dir_item bytes.now found → result ≡ Some found }
+    ensures names { All (λ e. IsName e.name) (unwrap_or result []) }
 {
     match Entries::open(DIR_ITEM, bytes) {
         Ok(entries) => Some(entries),
@@ -112,15 +114,16 @@ fn extrefs_in(bytes: &[u8]) -> Option<ExtRefs<'_>>
     }
 }
 
-/// The entries of a directory with a hash.
-pub(crate) fn entries_at<'t>(
+/// The entries of a directory with a hash, which are a part of the tree's leaf ("DIR_ITEM" of the on-disk format).
+pub fn entries_at<'t>(
     table: &'t BlockTable,
     tree: &Tree,
     dir: u64,
     hash: u32,
 ) -> Option<Entries<'t>>
     requires { IsTree table.now tree.now }
-    ensures { (sub : Subvolume) → GivesSubvolume table.now tree.now sub → IsPermutation (map without_transid (unwrap_or result [])) (hashed_asked sub dir hash) }
+    ensures same { (sub : Subvolume) → GivesSubvolume table.now tree.now sub → IsPermutation (map without_transid (unwrap_or result [])) (hashed_asked sub dir hash) }
+    ensures names { All (λ e. IsName e.name) (unwrap_or result []) }
 {
     match hashed_bytes(table, tree, dir, hash) {
         Some(bytes) => entries_in(bytes),

@@ -14,6 +14,7 @@ mod slots;
 
 pub use found::{End, Held};
 pub use inode::{has_entries, inode_item, is_dir, links, record_kind};
+pub use item::entries_at;
 pub use lengths::{dir_item_len, extref_item_len, ref_item_len};
 pub use paths::walk;
-pub use slots::slot;
+pub use slots::{held_at, slot, slot_ino};

@@ -94,8 +94,9 @@ fn far_index(table: &BlockTable, tree: &Tree, dir: u64, name: &[u8], ino: u64) -
     far_named(refs, dir, name)
 }
 
-/// What the slot has whose name leads to an inode.
-pub(crate) fn held_at(table: &BlockTable, tree: &Tree, dir: u64, name: &[u8], ino: u64) -> Held
+/// What the slot has whose name leads to an inode: one search, or two for a far name ("INODE_REF", "INODE_EXTREF" of the
+/// on-disk format).
+pub fn held_at(table: &BlockTable, tree: &Tree, dir: u64, name: &[u8], ino: u64) -> Held
     requires { IsTree table.now tree.now }
     ensures { (sub : Subvolume) (there : FlatName) → GivesCoherent table.now tree.now sub → LeadsTo sub dir name.now ino there
         → name_held dir name.now result ≡ there }
@@ -122,4 +123,15 @@ pub fn slot(table: &BlockTable, tree: &Tree, dir: u64, name: &[u8]) -> Option<He
 {
     let found = lead_at(table, tree, dir, name)?;
     Some(held_at(table, tree, dir, name, found.ino))
+}
+
+/// The inode to which the name in a slot leads, where the slot has one: one search ("DIR_ITEM" of the on-disk format).
+pub fn slot_ino(table: &BlockTable, tree: &Tree, dir: u64, name: &[u8]) -> Option<u64>
+    requires { IsTree table.now tree.now }
+    ensures { (sub : Subvolume) → GivesCoherent table.now tree.now sub → result ≡ option_map (λ there. there.ino) (name_in_slot sub.names dir name.now) }
+{
+    match lead_at(table, tree, dir, name) {
+        Some(found) => Some(found.ino),
+        None => None,
+    }
 }

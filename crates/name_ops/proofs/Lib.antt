@@ -1,0 +1,5 @@
+pub mod Stages
+pub mod Adding
+pub mod Answered
+pub mod Linked
+pub mod Totals
