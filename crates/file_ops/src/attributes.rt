@@ -64,6 +64,8 @@ pub fn set_attr(
             if is_crowded(table, sub, ino, name, value) {
                 return Answer::Collide;
             }
+            // The proof reads here that the name is one.
+            let _bytes = name.as_bytes();
             attribute_items::set_attribute(table, sub, ino, name, value);
             Answer::Plain
         }
