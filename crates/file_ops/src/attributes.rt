@@ -1,8 +1,10 @@
 //! Operations on attributes.
-ghost use Rattle.std.specs.Prelude.{◌≡◌, ◌≤◌, ◌+◌, length, IfOk};
-ghost use Rattle.block_table.specs.Table.{free_blocks};
+ghost use Rattle.std.specs.Prelude.{◌≤◌, length, IfOk};
 ghost use Rattle.flat_model.specs.Operations.{get_attribute, remove_attribute, set_attribute};
 ghost use Rattle.flat_model.specs.Volume.{RunSub};
+ghost use Rattle.tree_range.specs.Shape.{IsTree};
+ghost use Rattle.tree_frame.specs.Frame.{AreCurrent};
+ghost use Rattle.table_volume.specs.Gives.{sub_reach};
 ghost use Rattle.table_volume.specs.Running.{GivesRun};
 ghost use Rattle.file_ops.specs.Operated.{HasRoom, IsOperated};
 
@@ -22,7 +24,7 @@ pub fn get_attr(
     path: &Path,
     name: &Name,
 ) -> Result<Answer, OutOfMemory>
-    requires { (run : RunSub) × GivesRun table.now sub.now run }
+    requires { IsTree table.now sub.now.tree }
     ensures { (run : RunSub) → GivesRun table.now sub.now run
         → IfOk result (λ answer. IsOperated table.now table.now sub.now sub.now run (get_attribute run path.now name.now) answer 0) }
 {
@@ -48,7 +50,8 @@ pub fn set_attr(
     name: &Name,
     value: &Text,
 ) -> Answer
-    requires given { (run : RunSub) × GivesRun table.old sub.old run }
+    requires tree { IsTree table.old sub.old.tree }
+    requires current { AreCurrent table.old (sub_reach table.old sub.old.tree) }
     requires some { 1 ≤ length value.now }
     requires room { HasRoom table.old 17 }
     ensures { (run : RunSub) → GivesRun table.old sub.old run
@@ -74,7 +77,8 @@ pub fn set_attr(
 
 /// Takes an attribute of what stands at a path away. It takes 17 blocks and buffers at most.
 pub fn del_attr(table: &mut BlockTable, sub: &mut SubState, path: &Path, name: &Name) -> Answer
-    requires given { (run : RunSub) × GivesRun table.old sub.old run }
+    requires tree { IsTree table.old sub.old.tree }
+    requires current { AreCurrent table.old (sub_reach table.old sub.old.tree) }
     requires room { HasRoom table.old 17 }
     ensures { (run : RunSub) → GivesRun table.old sub.old run
         → IsOperated table.old table.new sub.old sub.new run (remove_attribute run path.now name.now) result 17 }

@@ -6,5 +6,7 @@
 
 mod attributes;
 mod place;
+#[cfg(test)]
+mod tests;
 
 pub use attributes::{del_attr, get_attr, set_attr};

@@ -39,12 +39,7 @@ pub fn remove_item(table: &mut BlockTable, tree: &mut Tree, key: Key)
 }
 
 /// Copies the bytes under a key to the front, and tells how many they are.
-fn copy_item(
-    table: &BlockTable,
-    tree: &Tree,
-    key: &Key,
-    into: &mut [u8; MOST_ITEM_BYTES],
-) -> usize
+fn copy_item(table: &BlockTable, tree: &Tree, key: &Key, into: &mut [u8; MOST_ITEM_BYTES]) -> usize
     requires tree { IsTree table.now tree.now }
     requires short { length (bytes_under key.now (tree_items table.now tree.now)) ≤ MOST_ITEM_BYTES }
     ensures count { result ≡ length (bytes_under key.now (tree_items table.now tree.now)) }
