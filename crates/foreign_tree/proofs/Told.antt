@@ -1,5 +1,5 @@
 -- What holds of an image, where one is told.
-use Rattle.std.proofs.Common.{◌≡◌, false, Option, Some, None, Result, Ok, Err, refl, sym}
+use Rattle.std.proofs.Common.{◌≡◌, false, Option, Some, None, Result, Ok, Err, sym}
 use Rattle.std.specs.Prelude.{OnOk}
 use Rattle.std.specs.Result.{is_err}
 use Rattle.disk_model.specs.Disk.{IfTold}

@@ -1,5 +1,5 @@
 -- A walk is Ok exactly where the root has a tree, and then it has met the tree's items and reach.
-use Rattle.std.proofs.Common.{◌≡◌, ◌≤◌, ◌<◌, ◌+◌, ◌++◌, ◌↔◌, ℕ, zero, suc, Bool, true, false, List, [], ◌∷◌, length, Contains, Option, Some, None, Result, Ok, Err, refl, sym, ap, ap₂, subst, ◌∙◌, arith, inl, inr, append-nil, append_assoc, nat_lt, if◌then◌else◌}
+use Rattle.std.proofs.Common.{◌≡◌, ◌++◌, ◌↔◌, ℕ, zero, suc, false, List, [], ◌∷◌, Contains, Option, Some, None, Result, Ok, Err, refl, sym, ap, subst, ◌∙◌, inl, inr, append-nil, append_assoc}
 use Rattle.std.proofs.lemmas.Bool.{ltb-false, le-ltb}
 use Rattle.std.proofs.lemmas.List.Elements.{Contains-append_left, Contains-append_right, Contains-append_cases}
 use Rattle.blk_base.specs.declared.fault.BlockFault.{BlockFault}
@@ -8,14 +8,11 @@ use Rattle.blk_base.specs.Trees.{NoneTwice, AreApart}
 use Rattle.disk_model.proofs.CrashLaws.{Contains-cons_cases, Contains-none}
 use Rattle.format_laws.specs.Checks.{finds_none, found_none, same_ok}
 use Rattle.foreign_format.specs.declared.fault.ForeignFault.{ForeignFault}
-use Rattle.foreign_format.specs.declared.fault.ForeignFault.TheVariants.{Unmapped, Twice, Block, Level}
 use Rattle.foreign_format.specs.Answer.{and_then, then_ok}
 use Rattle.foreign_format.specs.Block.{check_block}
 use Rattle.foreign_format.specs.Chunks.{physical_of}
-use Rattle.foreign_tree.specs.declared.volume.Volume.{Volume}
 use Rattle.foreign_tree.specs.declared.volume.Wanted.{Wanted}
-use Rattle.foreign_tree.specs.Answers.{walk_at}
-use Rattle.foreign_tree.specs.Tree.{AreChildren, Found, IsBlock, IsSubtree, IsTree, Walked, checked_place, entered, fresh_place, items_of, node_at, nothing_walked, opened, pointers_of, tree_of, walk_children, walk_from, was_reached}
+use Rattle.foreign_tree.specs.Tree.{VolumeValue, AreChildren, Found, IsBlock, IsSubtree, IsTree, Walked, checked_place, entered, fresh_place, items_of, node_at, nothing_walked, opened, pointers_of, tree_of, walk_children, walk_from, was_reached}
 use Rattle.foreign_tree.proofs.Reaches.{head_in, tail_in, none_twice_joined, none_twice_parts, not_in, not_reached}
 use Rattle.foreign_tree.proofs.Walking.{child_walk, with_block, with_more}
 
@@ -38,18 +35,18 @@ checked_ok at place (Ok _) found h = (refl, same_ok h)
 checked_ok at place (Err fault) found h = absurd cc
 
 -- a block that a walk opens
-opened_ok : (volume : Volume) (disk : List ℕ) (level at : ℕ) (generation : Option ℕ) (reached : List ℕ) (place : ℕ) → opened volume disk level at generation reached ≡ Ok place
+opened_ok : (volume : VolumeValue) (disk : List ℕ) (level at : ℕ) (generation : Option ℕ) (reached : List ℕ) (place : ℕ) → opened volume disk level at generation reached ≡ Ok place
     → IsBlock volume disk level at generation place × (Contains reached at → ⊥)
 opened_ok volume disk level at generation reached place h =
     let step = bind_ok (entered volume at reached) _ place h in
-    let here = fresh_ok (physical_of volume.chunks.items at volume.node_size) at reached step.0 step.1 in
+    let here = fresh_ok (physical_of volume.chunks at volume.node_size) at reached step.0 step.1 in
     let right = checked_ok at step.0 (check_block volume.fsid at generation level (node_at volume disk step.0)) place step.2 in
     (record { mapped = here.0 ∙ ap Some right.1; checked = subst (λ (p : ℕ). check_block volume.fsid at generation level (node_at volume disk p) ≡ Ok tt) right.1 right.0 }, not_reached at reached here.1)
 
-opens : (volume : Volume) (disk : List ℕ) (level at : ℕ) (generation : Option ℕ) (reached : List ℕ) (place : ℕ) → IsBlock volume disk level at generation place → (Contains reached at → ⊥)
+opens : (volume : VolumeValue) (disk : List ℕ) (level at : ℕ) (generation : Option ℕ) (reached : List ℕ) (place : ℕ) → IsBlock volume disk level at generation place → (Contains reached at → ⊥)
     → opened volume disk level at generation reached ≡ Ok place
 opens volume disk level at generation reached place is out =
-    then_ok (entered volume at reached) _ place (is_fresh (physical_of volume.chunks.items at volume.node_size) at reached place is.mapped (not_in at reached out)) ∙ ap (checked_place at place) is.checked
+    then_ok (entered volume at reached) _ place (is_fresh (physical_of volume.chunks at volume.node_size) at reached place is.mapped (not_in at reached out)) ∙ ap (checked_place at place) is.checked
 
 -- ---- what a walk adds
 
@@ -124,7 +121,7 @@ only_this at x reached fresh c d = elim (Contains-cons_cases at [] x d) [
   | inr none ↦ Contains-none x none
 ]
 
-walk_forward : (level : ℕ) (volume : Volume) (disk : List ℕ) (at : ℕ) (generation : Option ℕ) (before after : Walked)
+walk_forward : (level : ℕ) (volume : VolumeValue) (disk : List ℕ) (at : ℕ) (generation : Option ℕ) (before after : Walked)
     → walk_from level volume disk at generation before ≡ Ok after → Adds (IsSubtree level volume disk at generation) before after
 walk_forward zero volume disk at generation before after h =
     let step = bind_ok (opened volume disk zero at generation before.reached) _ after h in
@@ -155,7 +152,7 @@ walk_forward (suc level) volume disk at generation before after h =
       met = kids.met ∙ (λ i. record { items = before.items ++ kids.items; reached = append_assoc before.reached (at ∷ []) kids.reach i });
     }
 
-walk_back : (level : ℕ) (volume : Volume) (disk : List ℕ) (at : ℕ) (generation : Option ℕ) (before : Walked) (items : List Found) (reach : List ℕ)
+walk_back : (level : ℕ) (volume : VolumeValue) (disk : List ℕ) (at : ℕ) (generation : Option ℕ) (before : Walked) (items : List Found) (reach : List ℕ)
     → IsSubtree level volume disk at generation items reach → NoneTwice reach → AreApart before.reached reach → walk_from level volume disk at generation before ≡ Ok (with_more before items reach)
 walk_back zero volume disk at generation before items reach (place, block, is_items, is_reach) once apart =
     let out = λ (c : Contains before.reached at). apart at c (rw is_reach (head_in at [])) in
@@ -178,27 +175,27 @@ walk_back (suc level) volume disk at generation before items reach (place, under
 
 -- ---- the root
 
-pub tree_is_walked_lem : (volume : Volume) (disk : List ℕ) (root : Wanted) (walked : Walked) → (tree_of volume disk root ≡ Ok walked) ↔ IsTree volume disk root walked.items walked.reached
+pub tree_is_walked_lem : (volume : VolumeValue) (disk : List ℕ) (root : Wanted) (walked : Walked) → (tree_of volume disk root ≡ Ok walked) ↔ IsTree volume disk root walked.items walked.reached
 unfolding tree_of
 tree_is_walked_lem volume disk root walked = (
   (λ h.
-  let low = found_none _ _ _ _ h in
-  let adds = walk_forward root.level volume disk root.at root.generation nothing_walked walked low.1 in
-  let items : walked.items ≡ adds.items = ap (λ (w : Walked). w.items) adds.met in
-  let reached : walked.reached ≡ adds.reach = ap (λ (w : Walked). w.reached) adds.met in
-  record {
-    low = ltb-false 7 root.level low.0;
-    shape = subst (λ (items : List Found). IsSubtree root.level volume disk root.at root.generation items walked.reached) (sym items)
-        (subst (λ (reach : List ℕ). IsSubtree root.level volume disk root.at root.generation adds.items reach) (sym reached) adds.shape);
-    once = subst NoneTwice (sym reached) adds.once;
-  }),
+      let low = found_none _ _ _ _ h in
+      let adds = walk_forward root.level volume disk root.at root.generation nothing_walked walked low.1 in
+      let items : walked.items ≡ adds.items = ap (λ (w : Walked). w.items) adds.met in
+      let reached : walked.reached ≡ adds.reach = ap (λ (w : Walked). w.reached) adds.met in
+      record {
+        low = ltb-false 7 root.level low.0;
+        shape = subst (λ (items : List Found). IsSubtree root.level volume disk root.at root.generation items walked.reached) (sym items)
+            (subst (λ (reach : List ℕ). IsSubtree root.level volume disk root.at root.generation adds.items reach) (sym reached) adds.shape);
+        once = subst NoneTwice (sym reached) adds.once;
+      }),
   λ tree. finds_none _ _ _ (le-ltb 7 root.level tree.low) ∙ walk_back root.level volume disk root.at root.generation nothing_walked walked.items walked.reached tree.shape tree.once (λ at c d. Contains-none at c),
 )
 
 -- one tree has one list of items and one reach
-pub tree_is_one_lem : (volume : Volume) (disk : List ℕ) (root : Wanted) (one two : List Found) (near far : List ℕ) → IsTree volume disk root one near → IsTree volume disk root two far → (one ≡ two) × (near ≡ far)
+pub tree_is_one_lem : (volume : VolumeValue) (disk : List ℕ) (root : Wanted) (one two : List Found) (near far : List ℕ) → IsTree volume disk root one near → IsTree volume disk root two far → (one ≡ two) × (near ≡ far)
 tree_is_one_lem volume disk root one two near far x y =
     let same : ◌≡◌ {A = Result Walked ForeignFault} (Ok (with_more nothing_walked one near)) (Ok (with_more nothing_walked two far)) =
-        sym ((tree_is_walked_lem volume disk root (with_more nothing_walked one near)).1 x) ∙ (tree_is_walked_lem volume disk root (with_more nothing_walked two far)).1 y in
+    sym ((tree_is_walked_lem volume disk root (with_more nothing_walked one near)).1 x) ∙ (tree_is_walked_lem volume disk root (with_more nothing_walked two far)).1 y in
     let walked = same_ok same in
     (ap (λ (w : Walked). w.items) walked, ap (λ (w : Walked). w.reached) walked)

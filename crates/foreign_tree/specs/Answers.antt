@@ -5,10 +5,9 @@ use Rattle.foreign_format.specs.declared.fault.ForeignFault.{ForeignFault}
 use Rattle.foreign_format.specs.declared.fault.ReadFault.{ReadFault}
 use Rattle.foreign_format.specs.declared.fault.ReadFault.TheVariants.{Foreign, Disk, OutOfMemory}
 use Rattle.foreign_tree.specs.declared.reached.Reached.{Reached}
-use Rattle.foreign_tree.specs.declared.volume.Volume.{Volume}
 use Rattle.foreign_tree.specs.declared.volume.Wanted.{Wanted}
 use Rattle.foreign_tree.specs.Reached.{HasReached}
-use Rattle.foreign_tree.specs.Tree.{Found, Walked, opened, walk_from}
+use Rattle.foreign_tree.specs.Tree.{Found, VolumeValue, Walked, opened, walk_from}
 
 -- the fault says nothing of the volume: the disk failed, or there is no memory
 abbrev pub IsNoCheck : ReadFault → Type 0
@@ -31,11 +30,11 @@ IsWalk has_met old new (Err OutOfMemory) defined = Unit {0}
 -- ---- the walk from one block down, by what was reached before
 
 -- the walk that goes on at this block
-abbrev pub walk_at : Volume → List ℕ → Wanted → Walked → Result Walked ForeignFault
+abbrev pub walk_at : VolumeValue → List ℕ → Wanted → Walked → Result Walked ForeignFault
 walk_at volume disk wanted before = walk_from wanted.level volume disk wanted.at wanted.generation before
 
 -- The walk from this block on meets items at these addresses, and the visitor was shown them (own).
-pub record IsWalkedBelow {V : Type 0} (has_met : V → List Found → Type 0) (volume : Volume) (disk : List ℕ) (wanted : Wanted) (old new : Reached) (from to : V) : Type 0 where
+pub record IsWalkedBelow {V : Type 0} (has_met : V → List Found → Type 0) (volume : VolumeValue) (disk : List ℕ) (wanted : Wanted) (old new : Reached) (from to : V) : Type 0 where
   pub items : List Found
   pub reach : List ℕ
   pub walks : (before : Walked) → HasReached old before.reached → walk_at volume disk wanted before ≡ Ok (record { items = before.items ++ items; reached = before.reached ++ reach })
@@ -43,13 +42,13 @@ pub record IsWalkedBelow {V : Type 0} (has_met : V → List Found → Type 0) (v
   pub met : HasMetMore has_met from to items
 
 -- this is the first fault of the walk from this block on, where it is one of the volume (own)
-abbrev pub IsFaultBelow : Volume → List ℕ → Wanted → Reached → ReadFault → Type 0
+abbrev pub IsFaultBelow : VolumeValue → List ℕ → Wanted → Reached → ReadFault → Type 0
 IsFaultBelow volume disk wanted old (Foreign fault) = (before : Walked) → HasReached old before.reached → walk_at volume disk wanted before ≡ Err fault
 IsFaultBelow volume disk wanted old Disk = Unit {0}
 IsFaultBelow volume disk wanted old OutOfMemory = Unit {0}
 
 -- this is the first check of the block that fails, where it is one of the volume (own)
-abbrev pub IsNotOpened : Volume → List ℕ → Wanted → Reached → ReadFault → Type 0
+abbrev pub IsNotOpened : VolumeValue → List ℕ → Wanted → Reached → ReadFault → Type 0
 IsNotOpened volume disk wanted old (Foreign fault) =
     (before : List ℕ) → HasReached old before → opened volume disk wanted.level wanted.at wanted.generation before ≡ Err fault
 IsNotOpened volume disk wanted old Disk = Unit {0}

@@ -1,6 +1,5 @@
 -- Addresses in a set, as a walk has reached them.
 use Rattle.std.specs.Prelude.{◌≡◌, ℕ, List}
-use Rattle.std.specs.List.{list_any}
 use Rattle.std.specs.Ordering.{nat_cmp}
 use Rattle.std.specs.BTreeSet.{contains}
 use Rattle.foreign_tree.specs.declared.reached.Reached.{Reached}

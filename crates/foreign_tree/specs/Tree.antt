@@ -1,5 +1,5 @@
 -- Trees of a foreign volume: which items a tree has and which blocks it reaches, and the first fault of a walk over it.
-use Rattle.std.specs.Prelude.{◌≡◌, ◌≤◌, ◌+◌, ◌*◌, ℕ, zero, suc, Bool, nat_lt, ◌==◌, List, [], ◌∷◌, ◌++◌, map, Option, Some, None, Result, Ok, Err, if◌then◌else◌}
+use Rattle.std.specs.Prelude.{◌≡◌, ◌≤◌, ◌+◌, ℕ, zero, suc, Bool, nat_lt, ◌==◌, List, [], ◌∷◌, ◌++◌, map, Option, Some, None, Result, Ok, Err, if◌then◌else◌}
 use Rattle.std.specs.List.{concat, list_any}
 use Rattle.blk_base.specs.declared.format.TheConstants.{HEADER_SIZE, MAX_LEVEL}
 use Rattle.blk_base.specs.declared.key.Key.{Key}
@@ -12,8 +12,18 @@ use Rattle.foreign_format.specs.declared.fault.ForeignFault.TheVariants.{Unmappe
 use Rattle.foreign_format.specs.Answer.{and_then}
 use Rattle.foreign_format.specs.Block.{check_block}
 use Rattle.foreign_format.specs.Chunks.{physical_of}
+use Rattle.foreign_format.specs.declared.chunk.Chunk.{Chunk}
 use Rattle.foreign_tree.specs.declared.volume.Volume.{Volume}
 use Rattle.foreign_tree.specs.declared.volume.Wanted.{Wanted}
+
+-- what a volume's tree blocks are found and checked by
+pub record VolumeValue : Type 0 where
+  pub fsid : List ℕ
+  pub node_size : ℕ
+  pub chunks : List Chunk
+
+abbrev pub volume_value : Volume → VolumeValue
+volume_value volume = record { fsid = volume.fsid; node_size = volume.node_size; chunks = volume.chunks.items }
 
 -- the bytes of a disk: its blocks, one behind the other
 abbrev pub disk_bytes : Image → List ℕ
@@ -44,15 +54,15 @@ abbrev pub pointers_of : List ℕ → List Pointer
 pointers_of bytes = map (pointer_of bytes) (below (count_of bytes))
 
 -- the bytes of a tree block that begins at this place on the disk
-abbrev pub node_at : Volume → List ℕ → ℕ → List ℕ
+abbrev pub node_at : VolumeValue → List ℕ → ℕ → List ℕ
 node_at volume disk place = bytes_at volume.node_size disk place
 
 -- ---- what a tree is
 
 -- The block at a logical address is wholly in one chunk, where it begins at this place on the disk, and passes its checks:
 -- it is of this file system, this address, this generation where one is wanted, and this level.
-pub record IsBlock (volume : Volume) (disk : List ℕ) (level at : ℕ) (generation : Option ℕ) (place : ℕ) : Type 0 where
-  pub mapped : physical_of volume.chunks.items at volume.node_size ≡ Some place
+pub record IsBlock (volume : VolumeValue) (disk : List ℕ) (level at : ℕ) (generation : Option ℕ) (place : ℕ) : Type 0 where
+  pub mapped : physical_of volume.chunks at volume.node_size ≡ Some place
   pub checked : check_block volume.fsid at generation level (node_at volume disk place) ≡ Ok tt
 
 -- the children's items, one list behind the other, and all that they reach
@@ -64,7 +74,7 @@ AreChildren child (pointer ∷ pointers) items reach =
 
 -- A block on this level and those below it: a leaf holds the items; a node's children are read with their pointers' addresses
 -- and generations. First keys, owners and fill aren't looked at.
-abbrev pub IsSubtree : ℕ → Volume → List ℕ → ℕ → Option ℕ → List Found → List ℕ → Type 0
+abbrev pub IsSubtree : ℕ → VolumeValue → List ℕ → ℕ → Option ℕ → List Found → List ℕ → Type 0
 IsSubtree zero volume disk at generation items reach =
     (place : ℕ) × IsBlock volume disk zero at generation place × (items ≡ items_of at place (node_at volume disk place)) × (reach ≡ at ∷ [])
 IsSubtree (suc level) volume disk at generation items reach =
@@ -74,7 +84,7 @@ IsSubtree (suc level) volume disk at generation items reach =
     × (reach ≡ at ∷ under)
 
 -- the tree with this root has these items in order and reaches the blocks at these logical addresses, none of them twice
-pub record IsTree (volume : Volume) (disk : List ℕ) (root : Wanted) (items : List Found) (reach : List ℕ) : Type 0 where
+pub record IsTree (volume : VolumeValue) (disk : List ℕ) (root : Wanted) (items : List Found) (reach : List ℕ) : Type 0 where
   pub low : root.level ≤ MAX_LEVEL
   pub shape : IsSubtree root.level volume disk root.at root.generation items reach
   pub once : NoneTwice reach
@@ -98,8 +108,8 @@ fresh_place None at reached = Err (Unmapped at)
 fresh_place (Some place) at reached = if was_reached at reached then Err (Twice at) else Ok place
 
 -- the checks of an address before its block is looked at
-abbrev pub entered : Volume → ℕ → List ℕ → Result ℕ ForeignFault
-entered volume at reached = fresh_place (physical_of volume.chunks.items at volume.node_size) at reached
+abbrev pub entered : VolumeValue → ℕ → List ℕ → Result ℕ ForeignFault
+entered volume at reached = fresh_place (physical_of volume.chunks at volume.node_size) at reached
 
 -- where a block begins, or its own fault
 abbrev pub checked_place : ℕ → ℕ → Result (Unit {0}) BlockFault → Result ℕ ForeignFault
@@ -107,7 +117,7 @@ checked_place at place (Ok _) = Ok place
 checked_place at place (Err fault) = Err (Block at fault)
 
 -- where the block begins, or the first of its checks that fails
-abbrev pub opened : Volume → List ℕ → ℕ → ℕ → Option ℕ → List ℕ → Result ℕ ForeignFault
+abbrev pub opened : VolumeValue → List ℕ → ℕ → ℕ → Option ℕ → List ℕ → Result ℕ ForeignFault
 opened volume disk level at generation reached =
     and_then (entered volume at reached) (λ place. checked_place at place (check_block volume.fsid at generation level (node_at volume disk place)))
 
@@ -117,7 +127,7 @@ walk_children child [] before = Ok before
 walk_children child (pointer ∷ pointers) before = and_then (child pointer before) (walk_children child pointers)
 
 -- what is met at the block on this level and below it, after what was met before
-abbrev pub walk_from : ℕ → Volume → List ℕ → ℕ → Option ℕ → Walked → Result Walked ForeignFault
+abbrev pub walk_from : ℕ → VolumeValue → List ℕ → ℕ → Option ℕ → Walked → Result Walked ForeignFault
 walk_from zero volume disk at generation before = and_then (opened volume disk zero at generation before.reached) (λ place.
     Ok (record { items = before.items ++ items_of at place (node_at volume disk place); reached = before.reached ++ at ∷ [] }))
 walk_from (suc level) volume disk at generation before = and_then (opened volume disk (suc level) at generation before.reached) (λ place.
@@ -125,6 +135,6 @@ walk_from (suc level) volume disk at generation before = and_then (opened volume
     (record { items = before.items; reached = before.reached ++ at ∷ [] }))
 
 -- The items of a tree and the addresses of its blocks, or the first fault of the walk. A root above level 7 is refused first.
-unfoldable pub tree_of : Volume → List ℕ → Wanted → Result Walked ForeignFault
+unfoldable pub tree_of : VolumeValue → List ℕ → Wanted → Result Walked ForeignFault
 tree_of volume disk root =
     if nat_lt MAX_LEVEL root.level then Err (Level root.at) else walk_from root.level volume disk root.at root.generation nothing_walked

@@ -6,17 +6,18 @@
 #![tactic(auto)]
 
 mod disk;
+pub mod laws;
 mod node;
 mod reached;
+mod tree;
 mod visit;
 mod volume;
-mod tree;
-
-pub mod laws;
 
 pub use disk::read_part;
 pub use reached::Reached;
+pub use tree::walk;
 pub use visit::Visit;
 pub use volume::{Volume, Wanted};
-pub use tree::walk;
 
+#[cfg(test)]
+mod tests;

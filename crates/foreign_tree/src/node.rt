@@ -9,15 +9,17 @@ ghost use Rattle.foreign_format.specs.Block.{check_block, leaf_body, node_body};
 ghost use Rattle.foreign_format.specs.Chunks.{IsOnDisk};
 ghost use Rattle.foreign_tree.specs.Answers.{HasMetMore, IsNotOpened, child_wanted};
 ghost use Rattle.foreign_tree.specs.Reached.{HasReached};
-ghost use Rattle.foreign_tree.specs.Tree.{disk_bytes, entered, items_of, node_at, opened};
+ghost use Rattle.foreign_tree.specs.Tree.{disk_bytes, entered, items_of, node_at, opened, volume_value};
 
 use crate::disk::read_part;
 use crate::reached::Reached;
 use crate::{Visit, Volume, Wanted};
-use disk_model::Disk;
-use foreign_format::{ForeignFault, ReadFault, check_block, count_of, item_at, physical_of, pointer_at};
 use blk_base::OutOfMemory;
 use blk_base::format::BLOCK_SIZE;
+use disk_model::Disk;
+use foreign_format::{
+    ForeignFault, ReadFault, check_block, count_of, item_at, physical_of, pointer_at,
+};
 use std::alloc::Global;
 
 /// A tree block: where it begins on the disk, and its bytes.
@@ -28,14 +30,9 @@ pub(crate) struct Node {
 }
 
 /// Where the block at a logical address begins on the disk: it is wholly in one chunk, and wasn't reached before.
-fn enter(
-    volume: &Volume,
-    at: u64,
-    disk_size: u64,
-    reached: &mut Reached,
-) -> Result<u64, ReadFault>
+fn enter(volume: &Volume, at: u64, disk_size: u64, reached: &mut Reached) -> Result<u64, ReadFault>
     requires { All (IsOnDisk disk_size) volume.now.chunks.items }
-    ensures answer { (before : List ℕ) → HasReached reached.old before → Answers (λ place. place) result (entered volume.now at before) }
+    ensures answer { (before : List ℕ) → HasReached reached.old before → Answers (λ place. place) result (entered (volume_value volume.now) at before) }
     ensures reached { OnOk result ((before : List ℕ) → HasReached reached.old before → HasReached reached.new (before ++ at ∷ [])) }
     ensures on_disk { IfOk result (λ place. place + volume.now.node_size ≤ disk_size) }
     ensures no_disk { IfErr result (λ fault. fault ≢ ReadFault.Disk) }
@@ -62,13 +59,13 @@ pub(crate) fn read_node<D: Disk>(
     requires least { 4096 ≤ volume.now.node_size }
     requires most { volume.now.node_size ≤ 65536 }
     ensures opened { IfOk result (λ node. IfTold (known (D.seen disk.old) (D.lost disk.old)) (λ image.
-        (before : List ℕ) → HasReached reached.old before → opened volume.now (disk_bytes image) wanted.now.level wanted.now.at wanted.now.generation before ≡ Ok node.place)) }
-    ensures bytes { IfOk result (λ node. IfTold (known (D.seen disk.old) (D.lost disk.old)) (λ image. node.bytes.items ≡ node_at volume.now (disk_bytes image) node.place)) }
+        (before : List ℕ) → HasReached reached.old before → opened (volume_value volume.now) (disk_bytes image) wanted.now.level wanted.now.at wanted.now.generation before ≡ Ok node.place)) }
+    ensures bytes { IfOk result (λ node. IfTold (known (D.seen disk.old) (D.lost disk.old)) (λ image. node.bytes.items ≡ node_at (volume_value volume.now) (disk_bytes image) node.place)) }
     ensures length { IfOk result (λ node. length node.bytes.items ≡ volume.now.node_size) }
     ensures checked { IfOk result (λ node. check_block volume.now.fsid wanted.now.at wanted.now.generation wanted.now.level node.bytes.items ≡ Ok tt) }
     ensures place { IfOk result (λ node. node.place + 65536 < 2 ^ 64) }
     ensures reached { OnOk result ((before : List ℕ) → HasReached reached.old before → HasReached reached.new (before ++ wanted.now.at ∷ [])) }
-    ensures fault { IfErr result (λ fault. IfTold (known (D.seen disk.old) (D.lost disk.old)) (λ image. IsNotOpened volume.now (disk_bytes image) wanted.now reached.old fault)) }
+    ensures fault { IfErr result (λ fault. IfTold (known (D.seen disk.old) (D.lost disk.old)) (λ image. IsNotOpened (volume_value volume.now) (disk_bytes image) wanted.now reached.old fault)) }
     ensures disk_fault { (result ≡ Err ReadFault.Disk) → HasRisen (D.faults disk.old) (D.faults disk.new) }
     ensures size { D.count disk.new ≡ D.count disk.old }
     ensures seen { D.seen disk.new ≡ D.seen disk.old }
@@ -79,7 +76,13 @@ pub(crate) fn read_node<D: Disk>(
     let disk_size = u64::from(disk.blocks()) * BLOCK_SIZE;
     let place = enter(volume, wanted.at, disk_size, reached)?;
     let bytes = read_part(alloc, disk, place, volume.node_size)?;
-    match check_block(&bytes, &volume.fsid, wanted.at, wanted.generation, wanted.level) {
+    match check_block(
+        &bytes,
+        &volume.fsid,
+        wanted.at,
+        wanted.generation,
+        wanted.level,
+    ) {
         Ok(()) => Ok(Node { place, bytes }),
         Err(fault) => Err(ReadFault::Foreign(ForeignFault::Block(wanted.at, fault))),
     }
@@ -96,7 +99,12 @@ impl Node {
     {
         for i in 0..count_of(&self.bytes) {
             let (key, start, end) = item_at(&self.bytes, i);
-            visitor.meet(leaf, self.place + start as u64, &key, &self.bytes[start..end])?;
+            visitor.meet(
+                leaf,
+                self.place + start as u64,
+                &key,
+                &self.bytes[start..end],
+            )?;
         }
         Ok(())
     }

@@ -5,7 +5,7 @@ ghost use Rattle.disk_model.specs.Disk.{IfTold, known};
 ghost use Rattle.foreign_format.specs.declared.fault.ReadFault.{ReadFault};
 ghost use Rattle.foreign_format.specs.Chunks.{IsOnDisk};
 ghost use Rattle.foreign_tree.specs.Answers.{IsFaultBelow, IsWalk, IsWalkedBelow};
-ghost use Rattle.foreign_tree.specs.Tree.{disk_bytes, tree_of};
+ghost use Rattle.foreign_tree.specs.Tree.{disk_bytes, tree_of, volume_value};
 
 use crate::node::read_node;
 use crate::{Reached, Visit, Volume, Wanted};
@@ -26,8 +26,8 @@ fn walk_below<D: Disk, V: Visit>(
     requires on_disk { All (IsOnDisk (4096 * D.count disk.old)) volume.now.chunks.items }
     requires least { 4096 ≤ volume.now.node_size }
     requires most { volume.now.node_size ≤ 65536 }
-    ensures ok { OnOk result (IfTold (known (D.seen disk.old) (D.lost disk.old)) (λ image. IsWalkedBelow V.has_met volume.now (disk_bytes image) wanted.now reached.old reached.new visitor.old visitor.new)) }
-    ensures fault { IfErr result (λ fault. IfTold (known (D.seen disk.old) (D.lost disk.old)) (λ image. IsFaultBelow volume.now (disk_bytes image) wanted.now reached.old fault)) }
+    ensures ok { OnOk result (IfTold (known (D.seen disk.old) (D.lost disk.old)) (λ image. IsWalkedBelow V.has_met (volume_value volume.now) (disk_bytes image) wanted.now reached.old reached.new visitor.old visitor.new)) }
+    ensures fault { IfErr result (λ fault. IfTold (known (D.seen disk.old) (D.lost disk.old)) (λ image. IsFaultBelow (volume_value volume.now) (disk_bytes image) wanted.now reached.old fault)) }
     ensures disk_fault { (result ≡ Err ReadFault.Disk) → HasRisen (D.faults disk.old) (D.faults disk.new) }
     ensures size { D.count disk.new ≡ D.count disk.old }
     ensures seen { D.seen disk.new ≡ D.seen disk.old }
@@ -63,7 +63,7 @@ pub fn walk<D: Disk, V: Visit>(
     requires on_disk { All (IsOnDisk (4096 * D.count disk.old)) volume.now.chunks.items }
     requires least { 4096 ≤ volume.now.node_size }
     requires most { volume.now.node_size ≤ 65536 }
-    ensures answer { IfTold (known (D.seen disk.old) (D.lost disk.old)) (λ image. IsWalk V.has_met visitor.old visitor.new result (tree_of volume.now (disk_bytes image) root.now)) }
+    ensures answer { IfTold (known (D.seen disk.old) (D.lost disk.old)) (λ image. IsWalk V.has_met visitor.old visitor.new result (tree_of (volume_value volume.now) (disk_bytes image) root.now)) }
     ensures disk_fault { (result ≡ Err ReadFault.Disk) → HasRisen (D.faults disk.old) (D.faults disk.new) }
     ensures size { D.count disk.new ≡ D.count disk.old }
     ensures seen { D.seen disk.new ≡ D.seen disk.old }

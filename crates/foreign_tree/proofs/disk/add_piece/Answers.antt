@@ -1,4 +1,4 @@
-use Rattle.std.proofs.Common.{◌≡◌, ◌+◌, ◌-◌, ◌%◌, ◌++◌, List, ℕ, ap, sym, refl, ◌∙◌, arith}
+use Rattle.std.proofs.Common.{◌+◌, ◌-◌, ◌%◌, ◌++◌, List, ℕ, ap, sym, refl, ◌∙◌, arith}
 use Rattle.disk_model.specs.Disk.{known}
 use Rattle.foreign_tree.proofs.Told.{at_ok, told_from}
 use Rattle.foreign_tree.proofs.Bytes.{piece_read}
