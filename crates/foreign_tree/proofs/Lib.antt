@@ -1,4 +1,4 @@
-mod Told
+pub mod Told
 mod Bytes
 mod Walking
 mod Reaches
