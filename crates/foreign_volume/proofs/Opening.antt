@@ -47,7 +47,7 @@ answer_at shown result blocks blocks' rows rows' same same' answer =
 -- what stands behind the superblock
 abbrev behind_super : ℕ → Image → List ℕ → Superblock → Result OpenedValue ForeignFault
 behind_super blocks image block superblock =
-    and_then (array_chunks blocks block) (λ first. and_then (tree_chunks blocks image superblock first) (λ chunks. Ok (record { superblock = superblock; chunks = chunks })))
+    and_then (array_chunks blocks block) (λ first. and_then (tree_chunks blocks image superblock first) (λ chunks. Ok (record { superblock = superblock; volume = volume_with superblock chunks })))
 
 -- by the block that was read
 opened_by : (blocks : ℕ) (image : Image) (block : List ℕ) → super_bytes image ≡ block → opened_of blocks image ≡ and_then (super_of block) (behind_super blocks image block)
@@ -63,27 +63,28 @@ bad_array shown blocks count image block superblock failed same is good answer =
     subst (λ (n : ℕ). Answers opened_value (Err failed) (opened_of n image)) same
     (answers_same opened_value (Err failed) (and_then (super_of block) (behind_super blocks image block)) (opened_of blocks image) (opened_by blocks image block is)
     (answers_then opened_value (Err failed) (super_of block) (behind_super blocks image block) superblock good
-    (answers_err opened_value failed (array_chunks blocks block) (λ first. and_then (tree_chunks blocks image superblock first) (λ chunks. Ok (record { superblock = superblock; chunks = chunks }))) shown answer)))
+    (answers_err opened_value failed (array_chunks blocks block) (λ first. and_then (tree_chunks blocks image superblock first) (λ chunks. Ok (record { superblock = superblock; volume = volume_with superblock chunks }))) shown answer)))
 
 -- behind the superblock's chunks
-array_then : {C : Type 0} (shown : C → List Chunk) (blocks count : ℕ) (image : Image) (block : List ℕ) (superblock : Superblock) (first : C) (result : Result Opened ReadFault) → blocks ≡ count → super_bytes image ≡ block → super_of block ≡ Ok superblock
-    → array_chunks blocks block ≡ Ok (shown first) → Answers opened_value result (and_then (tree_chunks count image superblock (shown first)) (λ chunks. Ok (record { superblock = superblock; chunks = chunks }))) → Answers opened_value result (opened_of count image)
-array_then shown blocks count image block superblock first result same is good array answer =
-    let array' : array_chunks count block ≡ Ok (shown first) = ap (λ (n : ℕ). array_chunks n block) (sym same) ∙ array in
-    answers_same opened_value result (and_then (super_of block) (behind_super count image block)) (opened_of count image) (opened_by count image block is)
-    (answers_then opened_value result (super_of block) (behind_super count image block) superblock good
-    (answers_then opened_value result (array_chunks count block) (λ first. and_then (tree_chunks count image superblock first) (λ chunks. Ok (record { superblock = superblock; chunks = chunks }))) (shown first) array' answer))
+then_super : (blocks count : ℕ) (image : Image) (block : List ℕ) (superblock : Superblock) (first : List Chunk) → blocks ≡ count → super_bytes image ≡ block → super_of block ≡ Ok superblock
+    → array_chunks blocks block ≡ Ok first → opened_of count image ≡ and_then (tree_chunks count image superblock first) (λ chunks. Ok (record { superblock = superblock; volume = volume_with superblock chunks }))
+then_super blocks count image block superblock first same is good array =
+    let array' : array_chunks count block ≡ Ok first = ap (λ (n : ℕ). array_chunks n block) (sym same) ∙ array in
+    opened_by count image block is
+    ∙ then_ok (super_of block) (behind_super count image block) superblock good
+    ∙ then_ok (array_chunks count block) (λ first. and_then (tree_chunks count image superblock first) (λ chunks. Ok (record { superblock = superblock; volume = volume_with superblock chunks }))) first array'
 
 pub bad_tree : {C : Type 0} (shown : C → List Chunk) (blocks count read : ℕ) (image : Image) (block : List ℕ) (superblock : Superblock) (first : C) (failed : ReadFault) → blocks ≡ count → super_bytes image ≡ block → super_of block ≡ Ok superblock
     → array_chunks blocks block ≡ Ok (shown first) → read ≡ count → Answers shown (Err failed) (tree_chunks read image superblock (shown first)) → Answers opened_value (Err failed) (opened_of count image)
 bad_tree shown blocks count read image block superblock first failed same is good array kept answer =
-    array_then shown blocks count image block superblock first (Err failed) same is good array
-    (answers_err opened_value failed (tree_chunks count image superblock (shown first)) (λ chunks. Ok (record { superblock = superblock; chunks = chunks })) shown
+    answers_same opened_value (Err failed) _ (opened_of count image) (then_super blocks count image block superblock (shown first) same is good array)
+    (answers_err opened_value failed (tree_chunks count image superblock (shown first)) (λ chunks. Ok (record { superblock = superblock; volume = volume_with superblock chunks })) shown
     (subst (λ (n : ℕ). Answers shown (Err failed) (tree_chunks n image superblock (shown first))) kept answer))
 
-pub opened_ok : {C : Type 0} (shown : C → List Chunk) (blocks count read : ℕ) (image : Image) (block : List ℕ) (superblock : Superblock) (first : C) (opened : Opened) → blocks ≡ count → super_bytes image ≡ block → super_of block ≡ Ok superblock
-    → array_chunks blocks block ≡ Ok (shown first) → opened.superblock ≡ superblock → read ≡ count → tree_chunks read image superblock (shown first) ≡ Ok opened.chunks.items → opened_of count image ≡ Ok (opened_value opened)
-opened_ok shown blocks count read image block superblock first opened same is good array super kept tree =
-    array_then shown blocks count image block superblock first (Ok opened) same is good array
-    (then_ok (tree_chunks count image superblock (shown first)) (λ chunks. Ok (record { superblock = superblock; chunks = chunks })) opened.chunks.items (ap (λ (n : ℕ). tree_chunks n image superblock (shown first)) (sym kept) ∙ tree)
-    ∙ ap Ok (λ i. record { superblock = sym super i; chunks = opened.chunks.items }))
+pub opened_ok : {C : Type 0} (shown : C → List Chunk) (blocks count read : ℕ) (image : Image) (block : List ℕ) (superblock : Superblock) (first : C) (chunks : List Chunk) (volume : VolumeValue) → blocks ≡ count → super_bytes image ≡ block → super_of block ≡ Ok superblock
+    → array_chunks blocks block ≡ Ok (shown first) → read ≡ count → tree_chunks read image superblock (shown first) ≡ Ok chunks → volume ≡ volume_with superblock chunks → opened_of count image ≡ Ok (record { superblock = superblock; volume = volume })
+opened_ok shown blocks count read image block superblock first chunks volume same is good array kept tree with =
+    then_super blocks count image block superblock (shown first) same is good array
+    ∙ then_ok (tree_chunks count image superblock (shown first)) (λ chunks. Ok (record { superblock = superblock; volume = volume_with superblock chunks })) chunks
+    (ap (λ (n : ℕ). tree_chunks n image superblock (shown first)) (sym kept) ∙ tree)
+    ∙ ap Ok (λ i. record { superblock = superblock; volume = sym with i })

@@ -49,10 +49,10 @@ abbrev pub tree_chunks : ℕ → Image → Superblock → List Chunk → Result 
 tree_chunks blocks image superblock chunks =
     and_then (tree_of (volume_with superblock chunks) (disk_bytes image) (chunk_root superblock)) (λ walked. in_row (size_of blocks) 0 [] (chunk_rows walked.items))
 
--- a volume's superblock and chunks
+-- a volume's superblock, and what its trees are read by
 pub record OpenedValue : Type 0 where
   pub superblock : Superblock
-  pub chunks : List Chunk
+  pub volume : VolumeValue
 
 -- the volume on a disk of so many blocks, or the first fault: of the superblock, of its chunks, of the chunk tree, of that tree's chunks
 unfoldable pub opened_of : ℕ → Image → Result OpenedValue ForeignFault
@@ -60,4 +60,4 @@ opened_of blocks image =
     and_then (super_of (super_bytes image)) (λ superblock.
     and_then (array_chunks blocks (super_bytes image)) (λ first.
     and_then (tree_chunks blocks image superblock first) (λ chunks.
-    Ok (record { superblock = superblock; chunks = chunks }))))
+    Ok (record { superblock = superblock; volume = volume_with superblock chunks }))))

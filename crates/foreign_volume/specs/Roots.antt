@@ -1,8 +1,6 @@
 -- The subvolumes of a volume, by the root items in its root tree.
-use Rattle.std.specs.Prelude.{ℕ, ◌-◌, ◌^◌, ◌==◌, Bool, ◌&&◌, ◌||◌, nat_le, nat_lt, List, [], ◌∷◌, fold, Some, Result, Ok, Err, if◌then◌else◌}
+use Rattle.std.specs.Prelude.{ℕ, ◌-◌, ◌^◌, ◌==◌, Bool, ◌&&◌, ◌||◌, nat_le, nat_lt, List, [], ◌∷◌, fold, Option, Some, None, Result, Ok, Err, if◌then◌else◌}
 use Rattle.blk_base.specs.declared.fault.ItemFault.{ItemFault}
-use Rattle.blk_base.specs.declared.key.Key.{Key}
-use Rattle.blk_base.specs.Bytes.{Image}
 use Rattle.foreign_format.specs.declared.fault.ForeignFault.{ForeignFault}
 use Rattle.foreign_format.specs.declared.fault.ForeignFault.TheVariants.{Item}
 use Rattle.foreign_format.specs.declared.root.Root.{Root}
@@ -10,9 +8,8 @@ use Rattle.foreign_format.specs.declared.superblock.Superblock.{Superblock}
 use Rattle.foreign_format.specs.Answer.{and_then}
 use Rattle.foreign_format.specs.Items.{root_of}
 use Rattle.foreign_tree.specs.declared.volume.Wanted.{Wanted}
-use Rattle.foreign_tree.specs.Tree.{Found, disk_bytes, tree_of}
+use Rattle.foreign_tree.specs.Tree.{Found, VolumeValue, tree_of}
 use Rattle.foreign_volume.specs.declared.roots.Subvolume.{Subvolume}
-use Rattle.foreign_volume.specs.Opened.{OpenedValue, volume_with}
 
 -- an item's own fault, by its leaf and its key
 abbrev pub at_item : {A : Type 0} → Found → Result A ItemFault → Result A ForeignFault
@@ -52,7 +49,11 @@ with_root_item before found =
 abbrev pub subs_of : List Found → Result (List Subvolume) ForeignFault
 subs_of items = fold with_root_item (Ok []) items
 
--- the subvolumes of an opened volume in ascending order, or the first fault: of the root tree, then of an item in it
-unfoldable pub subvolumes_of : Image → OpenedValue → Result (List Subvolume) ForeignFault
-subvolumes_of image opened =
-    and_then (tree_of (volume_with opened.superblock opened.chunks) (disk_bytes image) (top_root opened.superblock)) (λ walked. subs_of walked.items)
+-- the subvolumes of a volume with this superblock in ascending order, or the first fault: of the root tree, then of an item in it
+unfoldable pub subvolumes_of : List ℕ → VolumeValue → Superblock → Result (List Subvolume) ForeignFault
+subvolumes_of disk volume superblock = and_then (tree_of volume disk (top_root superblock)) (λ walked. subs_of walked.items)
+
+-- the subvolumes so far, or the fault
+abbrev pub found_so_far : Option ForeignFault → List Subvolume → Result (List Subvolume) ForeignFault
+found_so_far None subs = Ok subs
+found_so_far (Some fault) subs = Err fault

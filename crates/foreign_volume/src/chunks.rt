@@ -92,7 +92,9 @@ pub(crate) fn array_chunks(
 
 /// What the trees of a volume with this superblock are read by, where these are its chunks.
 pub(crate) fn volume_with(superblock: &Superblock, chunks: Vec<Chunk>) -> Volume
-    ensures { volume_value result ≡ volume_with superblock.now chunks.items }
+    ensures value { volume_value result ≡ volume_with superblock.now chunks.items }
+    ensures chunks { result.chunks.items ≡ chunks.items }
+    ensures node_size { result.node_size ≡ superblock.now.node_size }
 {
     Volume {
         fsid: superblock.fsid,

@@ -8,18 +8,19 @@ ghost use Rattle.foreign_format.specs.Chunks.{IsOnDisk};
 ghost use Rattle.foreign_volume.specs.Opened.{opened_of, size_of, super_bytes};
 ghost use Rattle.foreign_volume.specs.View.{opened_value};
 
-use crate::chunks::{array_chunks, tree_chunks};
+use crate::chunks::{array_chunks, tree_chunks, volume_with};
 use blk_base::Block;
 use blk_base::format::SUPER_BLOCK;
 use disk_model::{Disk, DiskFailed};
-use foreign_format::{Chunk, ReadFault, Superblock, read_superblock};
+use foreign_format::{ReadFault, Superblock, read_superblock};
+use foreign_tree::Volume;
 use std::alloc::Global;
 
-/// A volume that was opened: its superblock and its chunks, in ascending order.
+/// A volume that was opened: its superblock, and what its trees are read by.
 #[derive(Drop)]
 pub struct Opened {
     pub superblock: Superblock,
-    pub chunks: Vec<Chunk>,
+    pub volume: Volume,
 }
 
 /// Reads the block of the superblock; a disk without it counts as zeros there.
@@ -43,9 +44,9 @@ fn read_super_block<D: Disk>(disk: &mut D, into: &mut Block) -> Result<(), DiskF
 /// `Disk` comes only where the disk's count of faults rose in this call.
 pub fn open<D: Disk>(alloc: Global, disk: &mut D) -> Result<Opened, ReadFault>
     ensures answer { IfTold (known (D.seen disk.old) (D.lost disk.old)) (λ image. Answers opened_value result (opened_of (D.count disk.old) image)) }
-    ensures on_disk { IfOk result (λ opened. All (IsOnDisk (size_of (D.count disk.old))) opened.chunks.items) }
-    ensures least { IfOk result (λ opened. 4096 ≤ opened.superblock.node_size) }
-    ensures most { IfOk result (λ opened. opened.superblock.node_size ≤ 65536) }
+    ensures on_disk { IfOk result (λ opened. All (IsOnDisk (size_of (D.count disk.old))) opened.volume.chunks.items) }
+    ensures least { IfOk result (λ opened. 4096 ≤ opened.volume.node_size) }
+    ensures most { IfOk result (λ opened. opened.volume.node_size ≤ 65536) }
     ensures disk_fault { (result ≡ Err ReadFault.Disk) → HasRisen (D.faults disk.old) (D.faults disk.new) }
     ensures size { D.count disk.new ≡ D.count disk.old }
     ensures seen { D.seen disk.new ≡ D.seen disk.old }
@@ -63,5 +64,6 @@ pub fn open<D: Disk>(alloc: Global, disk: &mut D) -> Result<Opened, ReadFault>
     };
     let first = array_chunks(alloc, &block, disk.blocks())?;
     let chunks = tree_chunks(alloc, disk, &superblock, first)?;
-    Ok(Opened { superblock, chunks })
+    let volume = volume_with(&superblock, chunks);
+    Ok(Opened { superblock, volume })
 }

@@ -1,8 +1,9 @@
-use Rattle.std.proofs.Common.{Vec, Global, refl, sym, ◌∙◌}
+use Rattle.std.proofs.Common.{Vec, Global, sym, ◌∙◌}
 use Rattle.std.proofs.lemmas.Result.{err_from_is_err_and}
 use Rattle.disk_model.specs.Disk.{known}
 use Rattle.disk_model.proofs.CrashLaws.{known_same}
 use Rattle.foreign_format.specs.declared.chunk.Chunk.{Chunk}
+use Rattle.foreign_tree.specs.Tree.{volume_value}
 use Rattle.foreign_tree.proofs.Told.{at_ok, told_both, told_from, told_same}
 use Rattle.foreign_volume.proofs.Opening.{bad_array, bad_super, bad_tree, opened_ok}
 use Rattle.foreign_volume.proofs.opened.open.Goals as goal
@@ -33,5 +34,5 @@ returns-clause-answer g c =
     let seen = known (g.D.Disk.seen c.args.disk.now) (g.D.Disk.lost c.args.disk.now) in
     told_both seen _ _ _ (at_ok c.read_super_block.result (sym c.is_err.ensures.value ∙ c.if-is_err.false) c.read_super_block.ensures.bytes)
     (told_same seen _ _ (known_same _ _ _ _ c.read_super_block.ensures.seen c.read_super_block.ensures.lost) c.in_ok-chunks.ensures.answer)
-    (λ image is. opened_ok (λ (chunks : Vec Chunk Global). chunks.items) c.blocks-2.result (g.D.Disk.count c.args.disk.now) (g.D.Disk.count c.read_super_block.new.disk) image c.read_super_block.new.into c.in-Ok.superblock c.in_ok-first.first (record { superblock = c.in-Ok.superblock; chunks = c.in_ok-chunks.chunks })
-    (c.blocks-2.ensures ∙ c.read_super_block.ensures.size) is (sym c.in-Ok.ensures.value) c.in_ok-first.ensures.answer refl c.read_super_block.ensures.size)
+    (λ image is tree. opened_ok (λ (chunks : Vec Chunk Global). chunks.items) c.blocks-2.result (g.D.Disk.count c.args.disk.now) (g.D.Disk.count c.read_super_block.new.disk) image c.read_super_block.new.into c.in-Ok.superblock c.in_ok-first.first c.in_ok-chunks.chunks.items
+    (volume_value c.volume_with-volume.result) (c.blocks-2.ensures ∙ c.read_super_block.ensures.size) is (sym c.in-Ok.ensures.value) c.in_ok-first.ensures.answer c.read_super_block.ensures.size tree c.volume_with-volume.ensures.value)
