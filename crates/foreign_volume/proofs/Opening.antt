@@ -1,19 +1,16 @@
 -- Volumes as they are opened, step by step.
-use Rattle.std.proofs.Common.{◌≡◌, ◌≤◌, ◌++◌, ℕ, suc, zero, List, [], ◌∷◌, length, slice_index_or, Option, Some, None, Result, Ok, Err, refl, sym, ap, subst, ◌∙◌, arith}
+use Rattle.std.proofs.Common.{◌≡◌, ◌≤◌, ℕ, suc, zero, List, [], ◌∷◌, length, slice_index_or, Option, Some, None, Result, Ok, Err, refl, sym, ap, subst, ◌∙◌, arith}
 use Rattle.blk_base.specs.Bytes.{Image, zeros}
 use Rattle.disk_model.specs.Disk.{IfTold}
 use Rattle.foreign_format.specs.declared.chunk.Chunk.{Chunk}
 use Rattle.foreign_format.specs.declared.chunk.ChunkRow.{ChunkRow}
 use Rattle.foreign_format.specs.declared.fault.ForeignFault.{ForeignFault}
 use Rattle.foreign_format.specs.declared.fault.ReadFault.{ReadFault}
-use Rattle.foreign_format.specs.declared.fault.ReadFault.TheVariants.{Foreign, Disk, OutOfMemory}
 use Rattle.foreign_format.specs.declared.superblock.Superblock.{Superblock}
 use Rattle.foreign_format.specs.Chunks.{in_row}
 use Rattle.foreign_format.specs.Super.{super_of}
-use Rattle.foreign_format.specs.Answer.{Answers, and_then, answers_err, answers_map, answers_same, answers_then, then_err, then_ok}
-use Rattle.foreign_tree.specs.Answers.{IsWalk}
-use Rattle.foreign_tree.specs.Tree.{Found, VolumeValue, Walked, disk_bytes, tree_of}
-use Rattle.foreign_volume.specs.declared.opened.Opened.{Opened}
+use Rattle.foreign_format.specs.Answer.{Answers, and_then, answers_err, answers_same, answers_then, then_err, then_ok}
+use Rattle.foreign_tree.specs.Tree.{VolumeValue, Walked, disk_bytes, tree_of}
 use Rattle.foreign_volume.specs.Opened.{OpenedValue, array_chunks, chunk_rows, chunk_root, opened_of, size_of, super_bytes, tree_chunks, volume_with}
 use Rattle.foreign_volume.specs.View.{opened_value}
 

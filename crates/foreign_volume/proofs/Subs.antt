@@ -1,6 +1,5 @@
 -- Subvolumes in ascending order, and those that a walk of the root tree met.
-use Rattle.std.proofs.Common.{◌≡◌, ◌≢◌, ◌≤◌, ◌<◌, ◌++◌, ℕ, suc, zero, Bool, true, false, List, [], ◌∷◌, length, get_or, insert, Option, Some, None, Result, Ok, Err, refl, sym, ap, subst, ◌∙◌, arith, le-ltb, lt-ltb}
-use Rattle.std.specs.Prelude.{◌==◌}
+use Rattle.std.proofs.Common.{◌≡◌, ◌≢◌, ◌≤◌, ◌<◌, ℕ, suc, zero, List, [], ◌∷◌, length, get_or, insert, Result, Ok, Err, refl, ap, ◌∙◌, arith, le-ltb, lt-ltb}
 use Rattle.std.proofs.Math.ListN.{set}
 use Rattle.std.proofs.lemmas.Bool.{eq-eqb, ne_eqb}
 use Rattle.foreign_format.specs.declared.fault.ReadFault.{ReadFault}

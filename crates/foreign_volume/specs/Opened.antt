@@ -1,5 +1,5 @@
 -- A volume that is opened: its superblock, and the chunks by which its trees are read.
-use Rattle.std.specs.Prelude.{ℕ, ◌+◌, ◌*◌, ◌==◌, List, [], fold, slice_index_or, Option, None, Result, Ok, Err, if◌then◌else◌}
+use Rattle.std.specs.Prelude.{ℕ, ◌*◌, ◌==◌, List, [], fold, slice_index_or, None, Result, Ok, if◌then◌else◌}
 use Rattle.blk_base.specs.declared.format.TheConstants.{BLOCK_SIZE, SUPER_BLOCK}
 use Rattle.blk_base.specs.Bytes.{Image, bytes_at, field, zeros}
 use Rattle.foreign_format.specs.declared.chunk.Chunk.{Chunk}

@@ -10,3 +10,6 @@ mod roots;
 
 pub use opened::{Opened, open};
 pub use roots::{Subvolume, subvolumes};
+
+#[cfg(test)]
+mod tests;

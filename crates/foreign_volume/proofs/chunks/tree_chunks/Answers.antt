@@ -1,6 +1,5 @@
-use Rattle.std.proofs.Common.{sym, ◌∙◌, ap, [], List, refl}
+use Rattle.std.proofs.Common.{◌∙◌, []}
 use Rattle.disk_model.specs.Disk.{known}
-use Rattle.foreign_format.specs.declared.chunk.ChunkRow.{ChunkRow}
 use Rattle.foreign_tree.specs.Tree.{volume_value}
 use Rattle.foreign_tree.proofs.Told.{told_from}
 use Rattle.foreign_volume.proofs.Opening.{answer_at, tree_then}
