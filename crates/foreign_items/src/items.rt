@@ -21,7 +21,9 @@ use std::alloc::Global;
 
 /// The key types of the items that are read.
 const INODE_ITEM: u8 = 1;
+
 const DIR_INDEX: u8 = 96;
+
 const EXTENT_DATA: u8 = 108;
 
 /// The items of a subvolume's tree, each list in the order of the tree.

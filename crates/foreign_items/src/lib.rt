@@ -10,3 +10,6 @@ mod rows;
 
 pub use items::{SubvolumeItems, read_items};
 pub use rows::{ExtentRow, InodeRow, Name, NameRow};
+
+#[cfg(test)]
+mod tests;
