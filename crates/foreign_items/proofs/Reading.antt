@@ -1,5 +1,5 @@
 -- A walk over a subvolume's tree.
-use Rattle.std.proofs.Common.{◌≡◌, ℕ, List, Result, Ok, Err, ap, sym, ◌∙◌}
+use Rattle.std.proofs.Common.{◌≡◌, ℕ, List, Ok, Err, ap, sym, ◌∙◌}
 use Rattle.foreign_format.specs.declared.fault.ReadFault.{ReadFault}
 use Rattle.foreign_format.specs.declared.fault.ReadFault.TheVariants.{Foreign, Disk, OutOfMemory}
 use Rattle.foreign_format.specs.Answer.{Answers, then_err, then_ok}
@@ -7,7 +7,7 @@ use Rattle.foreign_tree.specs.Answers.{IsWalk}
 use Rattle.foreign_tree.specs.Tree.{Found, VolumeValue, Walked, tree_of}
 use Rattle.foreign_volume.specs.declared.roots.Subvolume.{Subvolume}
 use Rattle.foreign_items.specs.declared.items.SubvolumeItems.{SubvolumeItems}
-use Rattle.foreign_items.specs.Rows.{ItemsValue, items_of, rows_of, sub_root}
+use Rattle.foreign_items.specs.Rows.{items_of, rows_of, sub_root}
 use Rattle.foreign_items.specs.View.{items_value}
 
 -- the rows of all items that the walk met
