@@ -1,1 +1,2 @@
 mod Summing
+mod Files

@@ -40,8 +40,9 @@ fn coding_of(extents: &[Extent]) -> Coding
     ensures { result ≡ coding_of extents.now }
 {
     for extent in extents {
-        if extent.coding != Coding::Plain {
-            return extent.coding;
+        match extent.coding {
+            Coding::Plain => {}
+            coding => return coding,
         }
     }
     Coding::Plain
@@ -68,11 +69,12 @@ fn register_of<D: Disk>(
     let mut from = 0;
     for extent in extents {
         let count = below_size(size, extent);
-        if count > 0 {
-            let before = add_zeros(register, extent.offset.saturating_sub(from));
-            register = add_source(alloc, disk, volume, before, extent.source, count)?;
-            from = extent.offset + count;
+        if count == 0 {
+            continue;
         }
+        let before = add_zeros(register, extent.offset.saturating_sub(from));
+        register = add_source(alloc, disk, volume, before, extent.source, count)?;
+        from = extent.offset + count;
     }
     Ok(add_zeros(register, size.saturating_sub(from)))
 }
