@@ -1,5 +1,5 @@
 -- The bytes of a file, extent by extent.
-use Rattle.std.proofs.Common.{◌≡◌, ◌≢◌, ◌≤◌, ◌<◌, ◌+◌, ◌-◌, ◌++◌, ℕ, List, [], ◌∷◌, length, get_or, drop, true, false, Result, Ok, Err, refl, sym, ap, subst, ◌∙◌, arith, append_assoc, nat_lt, le-ltb, lt-ltb, if◌then◌else◌}
+use Rattle.std.proofs.Common.{◌≡◌, ◌≢◌, ◌≤◌, ◌<◌, ◌+◌, ◌-◌, ◌++◌, ℕ, List, [], ◌∷◌, length, get_or, drop, true, false, Result, Ok, Err, refl, sym, ap, subst, ◌∙◌, append_assoc, nat_lt, le-ltb, lt-ltb, if◌then◌else◌}
 use Rattle.std.specs.Prelude.{bit_xor}
 use Rattle.std.proofs.lemmas.Bool.{eq-eqb, ne_eqb}
 use Rattle.blk_base.specs.Bytes.{zeros}
@@ -92,8 +92,8 @@ summing_more volume disk size extents register before after from next extent res
       ∙ ap (register_after 0xFFFF_FFFF) (append_assoc one.done (zeros (extent.offset - from)) bytes);
   goes = one.goes
       ∙ ap (λ (r : Result (List ℕ) ForeignFault). and_then r (λ more. Ok (one.done ++ more)))
-          (looked_at volume disk size from extent rest some
-          ∙ ap (λ (r : Result (List ℕ) ForeignFault). and_then r (λ bytes. and_then (content_from volume disk size (extent.offset + below_size size extent) rest) (λ rest. Ok (zeros (extent.offset - from) ++ (bytes ++ rest))))) read)
+      (looked_at volume disk size from extent rest some
+      ∙ ap (λ (r : Result (List ℕ) ForeignFault). and_then r (λ bytes. and_then (content_from volume disk size (extent.offset + below_size size extent) rest) (λ rest. Ok (zeros (extent.offset - from) ++ (bytes ++ rest))))) read)
       ∙ regroup (content_from volume disk size (extent.offset + below_size size extent) rest) one.done (zeros (extent.offset - from)) bytes
       ∙ ap (λ (n : ℕ). and_then (content_from volume disk size n rest) (λ more. Ok ((one.done ++ (zeros (extent.offset - from) ++ bytes)) ++ more))) (sym is);
 }

@@ -1,5 +1,5 @@
 -- Bytes summed piece by piece.
-use Rattle.std.proofs.Common.{◌≡◌, ◌≤◌, ◌<◌, ◌+◌, ◌-◌, ◌*◌, ◌++◌, min, ℕ, List, [], ◌∷◌, length, take, drop, replicate, Option, Some, None, Result, Ok, Err, refl, sym, ap, ◌∙◌, arith, inl, inr, length-append}
+use Rattle.std.proofs.Common.{◌≡◌, ◌≤◌, ◌+◌, ◌-◌, ◌*◌, ◌++◌, min, ℕ, List, [], ◌∷◌, length, take, drop, replicate, Option, Result, Ok, Err, refl, sym, ap, ◌∙◌, arith, inl, inr, length-append}
 use Rattle.std.specs.Prelude.{IfErr, IfOk}
 use Rattle.std.proofs.Math.ListN.{drop_of_length-le}
 use Rattle.std.proofs.Math.Seq.{take-add}
@@ -48,19 +48,19 @@ range_more register after now bytes part place done step is read more =
 cut : (xs : List ℕ) (at count n place : ℕ) → n ≡ min count (length xs - at) → place ≡ min at (length xs) → bytes_at n xs place ≡ bytes_at count xs at
 cut xs at count n place is_n is_place = elim (cases_lt (length xs) at) [
   | inl past ↦ (
-    let none : n ≡ 0 = omega arith in
-    let gone : drop at xs ≡ [] = drop_of_length-le xs (omega arith) in
-    ap (λ (k : ℕ). bytes_at k xs place) none ∙ sym (ap (take count) gone ∙ take_all count [] (omega arith))
-  )
+      let none : n ≡ 0 = omega arith in
+      let gone : drop at xs ≡ [] = drop_of_length-le xs (omega arith) in
+      ap (λ (k : ℕ). bytes_at k xs place) none ∙ sym (ap (take count) gone ∙ take_all count [] (omega arith))
+      )
   | inr inside ↦ (
-    let here : place ≡ at = omega arith in
-    let left = length-drop at xs in
-    ap (λ (p : ℕ). bytes_at n xs p) here
-    ∙ elim (cases_lt (length xs - at) count) [
-      | inl short ↦ take_all n (drop at xs) (omega arith) ∙ sym (take_all count (drop at xs) (omega arith))
-      | inr enough ↦ (let all : n ≡ count = omega arith in ap (λ (k : ℕ). bytes_at k xs at) all)
-    ]
-  )
+      let here : place ≡ at = omega arith in
+      let left = length-drop at xs in
+      ap (λ (p : ℕ). bytes_at n xs p) here
+      ∙ elim (cases_lt (length xs - at) count) [
+        | inl short ↦ take_all n (drop at xs) (omega arith) ∙ sym (take_all count (drop at xs) (omega arith))
+        | inr enough ↦ (let all : n ≡ count = omega arith in ap (λ (k : ℕ). bytes_at k xs at) all)
+      ]
+      )
 ]
 
 length_bytes : (image : Image) → IsImage image → length (disk_bytes image) ≡ 4096 * length image

@@ -8,3 +8,6 @@ mod bytes;
 mod file;
 
 pub use file::{Sum, sum_of};
+
+#[cfg(test)]
+mod tests;

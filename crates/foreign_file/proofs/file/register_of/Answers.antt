@@ -1,4 +1,4 @@
-use Rattle.std.proofs.Common.{◌≤◌, ℕ, ap, drop, refl, ◌∙◌, arith}
+use Rattle.std.proofs.Common.{ℕ, ap, drop, refl, ◌∙◌, arith}
 use Rattle.std.proofs.lemmas.Result.{err_from_is_err_and}
 use Rattle.blk_base.specs.Bytes.{zeros}
 use Rattle.blk_base.specs.Crc.{register_after}
