@@ -9,7 +9,7 @@ use Rattle.flat_model.specs.Operations.{Outcome, attribute_rows, attributes_ther
 use Rattle.flat_model.specs.Records.{Attributes, InodeRecord, attributes_of, with_attributes}
 use Rattle.flat_model.specs.Volume.{RunSub}
 use Rattle.flat_model.specs.Walk.{WalkEnd, record_at, walk}
-use Rattle.file_ops.specs.Operated.{IsOperated}
+use Rattle.table_volume.specs.Operated.{IsOperated}
 use Rattle.file_ops.proofs.Answered.{finished, refused, stays}
 use Rattle.file_ops.proofs.Done.{attributes_written, operated}
 use Rattle.file_ops.proofs.Placed.{record_is}
