@@ -1,5 +1,5 @@
--- Items of a leaf and children of a node, from a place on.
-use Rattle.std.proofs.Common.{◌≡◌, ◌≤◌, ◌<◌, ◌+◌, ◌-◌, ℕ, zero, suc, List, [], ◌∷◌, ◌++◌, length, drop, slice_get, Some, Result, Ok, Err, refl, ap, subst, ◌∙◌, arith}
+-- Lists from a place on and up to one, and children of a node.
+use Rattle.std.proofs.Common.{◌≡◌, ◌≤◌, ◌<◌, ◌+◌, ◌-◌, ℕ, zero, suc, List, [], ◌∷◌, ◌++◌, length, take, drop, slice_get, Some, Result, Ok, Err, refl, ap, subst, ◌∙◌, arith}
 use Rattle.std.specs.Prelude.{OnOk}
 use Rattle.std.specs.List.{flat_map}
 use Rattle.blk_base.specs.Leaf.{Pointer, node_body_of}
@@ -19,6 +19,25 @@ none_from [] zero past = refl
 none_from [] (suc place) past = refl
 none_from (x ∷ xs) zero past = absurd (omega arith)
 none_from (x ∷ xs) (suc place) past = none_from xs place (omega arith)
+
+-- ---- up to a place
+
+take_next : {A : Type 0} (xs : List A) (place : ℕ) (x : A) → slice_get xs place ≡ Some x → take (suc place) xs ≡ take place xs ++ x ∷ []
+take_next [] place x h = absurd cc
+take_next (y ∷ ys) zero x h = let same : y ≡ x = cc in ap (λ z. z ∷ []) same
+take_next (y ∷ ys) (suc place) x h = ap (λ l. y ∷ l) (take_next ys place x h)
+
+-- one more
+pub to_here : {A : Type 0} (xs : List A) (place : ℕ) (x : A) → slice_get xs place ≡ Some x → take (place + 1) xs ≡ take place xs ++ x ∷ []
+to_here xs place x is = (let one : place + 1 ≡ suc place = omega arith in ap (λ n. take n xs) one) ∙ take_next xs place x is
+
+pub to_end : {A : Type 0} (xs : List A) (place : ℕ) → length xs ≤ place → take place xs ≡ xs
+to_end [] zero past = refl
+to_end [] (suc place) past = refl
+to_end (x ∷ xs) zero past = absurd (omega arith)
+to_end (x ∷ xs) (suc place) past = ap (λ l. x ∷ l) (to_end xs place (omega arith))
+
+-- ---- children
 
 -- what stands below the children of a node from a place on begins with what stands below the child there
 pub from_child : {A : Type 0} (below : ℕ → List A) (pointers : List Pointer) (place child generation : ℕ) → slice_get (children_of pointers) place ≡ Some (child, generation)
