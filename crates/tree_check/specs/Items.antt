@@ -54,7 +54,8 @@ and_then (Err fault) next = Err fault
 -- the same of the leaves at these byte addresses, one behind the other
 abbrev pub leaves_checked : Table → Option FileEnd → List ℕ → Result (Option FileEnd) TreeFault
 leaves_checked table before [] = Ok before
-leaves_checked table before (at ∷ leaves) = and_then (leaf_checked (record { 0 = at }) before (leaf_items table at)) (λ after. leaves_checked table after leaves)
+leaves_checked table before (at ∷ leaves) =
+    and_then (leaf_checked (record { 0 = at }) before (leaf_items table at)) (λ after. leaves_checked table after leaves)
 
 -- the byte addresses of the leaves below a block on this level, from left to right
 abbrev pub leaves_below : ℕ → Table → ℕ → List ℕ
@@ -74,8 +75,8 @@ AreBytes items = (key : Key) (bytes : List ℕ) → Contains items (key, bytes) 
 -- each item is spelled by the grammar of its key's type, and no two extents of a file cover one byte
 pub record AreRight (items : List Item) : Type 0 where
   pub spelled : (key : Key) (bytes : List ℕ) → Contains items (key, bytes) → IsSpelled key bytes
-  pub apart : (ino one two : ℕ) (first second : List ℕ) → Contains items (make_key ino extent_data one, first) → Contains items (make_key ino extent_data two, second) → one < two
-      → one + extent_len (make_key ino extent_data one) first ≤ two
+  pub apart : (ino one two : ℕ) (first second : List ℕ) → Contains items (make_key ino extent_data one, first)
+      → Contains items (make_key ino extent_data two, second) → one < two → one + extent_len (make_key ino extent_data one) first ≤ two
 
 -- ---- which fault is the first
 
