@@ -105,7 +105,7 @@ extent_same (Some (LinkInode link)) (Ok (Inline content)) = refl
 extent_same (Some (LinkInode link)) (Ok (Hole len)) = refl
 extent_same (Some (LinkInode link)) (Err fault) = refl
 
-dir_same : (inode : Option InodeRecord) → is_dir (option_map kind_of inode) ≡ is_dir_there inode
+pub dir_same : (inode : Option InodeRecord) → is_dir (option_map kind_of inode) ≡ is_dir_there inode
 dir_same None = refl
 dir_same (Some (FileInode file)) = refl
 dir_same (Some (DirInode dir)) = refl

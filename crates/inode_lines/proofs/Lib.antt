@@ -1,2 +1,3 @@
 pub mod Kinded
 pub mod Own
+pub mod Fellows
