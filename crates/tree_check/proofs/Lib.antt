@@ -8,5 +8,5 @@ pub mod Passing
 pub mod Apart
 pub mod Fresh
 pub mod First
-pub mod Bytes
+pub mod Each
 pub mod Short

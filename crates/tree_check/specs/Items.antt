@@ -7,7 +7,7 @@ use Rattle.blk_base.specs.declared.key.Addr.{Addr}
 use Rattle.blk_base.specs.declared.key.Key.{Key}
 use Rattle.blk_base.specs.Bytes.{IsBytes}
 use Rattle.blk_base.specs.ItemFaults.{IsSpelled, item_fault}
-use Rattle.blk_base.specs.Keys.{extent_data}
+use Rattle.blk_base.specs.Keys.{KeyFits, extent_data}
 use Rattle.blk_base.specs.Leaf.{Item}
 use Rattle.block_table.specs.declared.tree.Tree.{Tree}
 use Rattle.block_table.specs.Table.{Table}
@@ -71,6 +71,10 @@ items_answer table tree = and_then (leaves_checked table None (leaves_below tree
 -- the items' data are bytes
 abbrev pub AreBytes : List Item → Type 0
 AreBytes items = (key : Key) (bytes : List ℕ) → Contains items (key, bytes) → IsBytes bytes
+
+-- the items' keys fit their fields ("Key")
+abbrev pub HaveKeys : List Item → Type 0
+HaveKeys items = (key : Key) (bytes : List ℕ) → Contains items (key, bytes) → KeyFits key
 
 -- each item is spelled by the grammar of its key's type, and no two extents of a file cover one byte
 pub record AreRight (items : List Item) : Type 0 where
