@@ -1,10 +1,7 @@
 -- Entries under a key are those of the item there.
-use Rattle.std.proofs.Common.{◌≡◌, ◌↔◌, ℕ, Bool, true, false, List, [], ◌∷◌, Contains, Option, Some, None, refl, sym, ap, subst, ◌∙◌, inl, inr}
-use Rattle.std.specs.Prelude.{◌==◌, ◌&&◌, ◌||◌, IsTrue}
-use Rattle.std.specs.Str.{bytes_eq}
+use Rattle.std.proofs.Common.{◌≡◌, ◌↔◌, ℕ, Bool, true, false, List, [], ◌∷◌, Contains, Some, None, sym, ap, subst, ◌∙◌, inl, inr}
+use Rattle.std.specs.Prelude.{◌&&◌, ◌||◌, IsTrue}
 use Rattle.std.specs.List.{list_any}
-use Rattle.std.specs.Option.{option_map}
-use Rattle.std.specs.FinMap.{get}
 use Rattle.std.proofs.lemmas.Bool.{and_from, and_parts, cases_Bool, eq-eqb, eqb-true}
 use Rattle.std.proofs.lemmas.Slice.Eq.{bytes_eq-Decides}
 use Rattle.blk_base.specs.declared.key.Key.{Key}
@@ -14,19 +11,17 @@ use Rattle.blk_base.specs.Keys.{dir_index, dir_item}
 use Rattle.blk_base.specs.Leaf.{Item}
 use Rattle.blk_base.specs.Trees.{ItemsRise}
 use Rattle.flat_model.specs.Names.{FlatName}
-use Rattle.flat_model.specs.Records.{DirInode, FileInode, InodeRecord, LinkInode, kind_of}
-use Rattle.flat_model.specs.Volume.{Subvolume, is_dir_at, is_dir_there}
+use Rattle.flat_model.specs.Volume.{is_dir_at}
 use Rattle.image_faults.specs.Faulty.{IsRightRef}
-use Rattle.image_faults.specs.Said.{entries_at, read_list, said_inodes, said_sub}
+use Rattle.image_faults.specs.Said.{read_list, said_sub}
 use Rattle.image_faults.proofs.Readings.{entry_from, entry_in}
 use Rattle.tree_range.specs.Between.{data_under}
 use Rattle.tree_range.proofs.Found.{contains_under}
 use Rattle.volume_image.specs.Subvolume.{Data, make_key}
 use Rattle.volume_image.proofs.Lists.{in_cons, in_nothing}
 use Rattle.volume_image.proofs.Reaches.{head_in, tail_in}
-use Rattle.inode_lines.specs.Kinds.{is_dir, said_kind}
 use Rattle.inode_lines.specs.Refs.{HasEntry, is_named}
-use Rattle.inode_lines.proofs.Kinded.{dir_same, under_in}
+use Rattle.inode_lines.proofs.Kinded.{under_in}
 
 -- ---- among entries
 
@@ -82,9 +77,12 @@ entry_there items key name bytes ino answer rise is says = (
     same_bytes a b h = cc
 
 pub entry_absent : (items : List Item) (key : Key) (name : List ℕ) (ino : ℕ) → ItemsRise items → None ≡ data_under key items → IsTrue false ↔ HasEntry items key name ino
-entry_absent items key name ino rise is = (λ h. absurd cc, λ has.
-    let e = entry_from items key.kind key.objectid (key.offset, has.0) has.1 in
-    absurd (clash e.bytes (is ∙ under_in items key e.bytes rise e.there)))
+entry_absent items key name ino rise is = (
+  λ h. absurd cc,
+  λ has.
+      let e = entry_from items key.kind key.objectid (key.offset, has.0) has.1 in
+      absurd (clash e.bytes (is ∙ under_in items key e.bytes rise e.there)),
+)
   where
     clash : (a : List ℕ) → None ≡ Some a → ⊥
     clash a h = cc

@@ -1,5 +1,7 @@
-use super::{has_inode_item, has_own_ref, has_right_key, is_ino_number, kind_at};
-use blk_base::format::{DIR_INDEX, EXTENT_DATA, INODE_ITEM, INODE_REF};
+use super::{
+    Ref, has_inode_item, has_own_ref, has_right_key, is_ino_number, is_right_ref, kind_at,
+};
+use blk_base::format::{DIR_INDEX, DIR_ITEM, EXTENT_DATA, INODE_ITEM, INODE_REF};
 use blk_base::{Addr, Block, Ino, Key, put_bytes, put_u8, put_u16, put_u32, put_u64};
 use block_table::{BlockTable, SlotState, Tree};
 use flat_model::Kind;
@@ -38,23 +40,34 @@ fn key_of(objectid: u64, kind: u8, offset: u64) -> Key {
     }
 }
 
-/// The root directory with its name for itself and an entry at index 2, and the file 257.
+/// The entry of the file 257 under the name `f`, at byte `at` of the block.
+fn put_entry(block: &mut Block, at: usize) -> Result<(), Fail> {
+    if at > 4000 {
+        return Err(Fail::from("no place"));
+    }
+    put_u64(block, at, 257);
+    put_u8(block, at + 8, INODE_ITEM);
+    put_u16(block, at + 27, 1);
+    put_u8(block, at + 29, 1);
+    put_u8(block, at + 30, b'f');
+    Ok(())
+}
+
+/// The root directory with its name for itself, and the file 257 under the name `f` at index 2, whose hash is 411982631.
 fn leaf() -> Result<Block, Fail> {
     let mut block = [0; 4096];
-    put_u32(&mut block, 96, 4);
+    put_u32(&mut block, 96, 5);
     put_header(&mut block, 0, &key_of(256, INODE_ITEM, 0), 3936, 160)?;
     put_u32(&mut block, 3988, 16_877);
     put_header(&mut block, 1, &key_of(256, INODE_REF, 256), 3924, 12)?;
     put_u16(&mut block, 3932, 2);
     put_bytes(&mut block, 3934, b"..");
-    put_header(&mut block, 2, &key_of(256, DIR_INDEX, 2), 3893, 31)?;
-    put_u64(&mut block, 3893, 257);
-    put_u8(&mut block, 3901, 1);
-    put_u16(&mut block, 3920, 1);
-    put_u8(&mut block, 3922, 1);
-    put_u8(&mut block, 3923, b'f');
-    put_header(&mut block, 3, &key_of(257, INODE_ITEM, 0), 3733, 160)?;
-    put_u32(&mut block, 3785, 33_188);
+    put_header(&mut block, 2, &key_of(256, DIR_ITEM, 411_982_631), 3893, 31)?;
+    put_entry(&mut block, 3893)?;
+    put_header(&mut block, 3, &key_of(256, DIR_INDEX, 2), 3862, 31)?;
+    put_entry(&mut block, 3862)?;
+    put_header(&mut block, 4, &key_of(257, INODE_ITEM, 0), 3702, 160)?;
+    put_u32(&mut block, 3754, 33_188);
     Ok(block)
 }
 
@@ -110,6 +123,32 @@ fn lines_are_told(rt: HostRuntime) -> Result<(), Fail> {
     ];
     for (key, bytes, answer) in rows {
         assert_eq!(rt; has_right_key(&table, &tree, &key, bytes), answer);
+    }
+    let right = Ref {
+        ino: Ino(257),
+        dir: Ino(256),
+        index: 2,
+        name: b"f",
+    };
+    for (found, answer) in [
+        (right, true),
+        (Ref { index: 3, ..right }, false),
+        (
+            Ref {
+                name: b"g",
+                ..right
+            },
+            false,
+        ),
+        (
+            Ref {
+                dir: Ino(257),
+                ..right
+            },
+            false,
+        ),
+    ] {
+        assert_eq!(rt; is_right_ref(&table, &tree, found), answer);
     }
     Ok(())
 }
