@@ -14,6 +14,7 @@ use Rattle.volume_image.specs.Tree.{was_reached}
 use Rattle.volume_image.proofs.Reaches.{not_reached, not_in, was_reached-in, was_reached-true}
 use Rattle.tree_check.specs.declared.fault.TreeFault.TheVariants.{Outside, Twice}
 use Rattle.tree_check.specs.declared.runs.Run.{Run}
+use Rattle.tree_check.proofs.Places.{to_end, to_here}
 use Rattle.tree_check.specs.Blocks.{blocks_checked, run_of, runs_of}
 
 -- ---- one block
@@ -76,23 +77,11 @@ there runs place inside = slice_get-get_or runs place (record { at = record { 0 
 pub runs_next : (runs : List Run) (place : ℕ) → place < length runs → runs_of (take (place + 1) runs) ≡ runs_of (take place runs) ++ run_of (run_at runs place)
 runs_next runs place inside =
     let run = run_at runs place in
-    (let one : place + 1 ≡ suc place = omega arith in ap (λ (n : ℕ). runs_of (take n runs)) one)
-    ∙ ap runs_of (take_next runs place run (there runs place inside)) ∙ flat_map-append run_of (take place runs) (run ∷ []) ∙ ap (λ (l : List ℕ). runs_of (take place runs) ++ l) (append-nil (run_of run))
-  where
-    take_next : (xs : List Run) (place : ℕ) (x : Run) → slice_get xs place ≡ Some x → take (suc place) xs ≡ take place xs ++ x ∷ []
-    take_next [] place x h = absurd cc
-    take_next (y ∷ ys) zero x h = let same : y ≡ x = cc in ap (λ (z : Run). z ∷ []) same
-    take_next (y ∷ ys) (suc place) x h = ap (λ (l : List Run). y ∷ l) (take_next ys place x h)
+    ap runs_of (to_here runs place run (there runs place inside)) ∙ flat_map-append run_of (take place runs) (run ∷ []) ∙ ap (λ (l : List ℕ). runs_of (take place runs) ++ l) (append-nil (run_of run))
 
 pub runs_cut : (runs : List Run) (place : ℕ) → place < length runs → runs_of runs ≡ runs_of (take place runs) ++ (run_of (run_at runs place) ++ runs_of (drop (suc place) runs))
 runs_cut runs place inside =
     ap runs_of (cut_at runs place (run_at runs place) (there runs place inside)) ∙ flat_map-append run_of (take place runs) (run_at runs place ∷ drop (suc place) runs)
 
 pub runs_all : (runs : List Run) (place : ℕ) → length runs ≤ place → runs_of (take place runs) ≡ runs_of runs
-runs_all runs place past = ap runs_of (take_all runs place past)
-  where
-    take_all : (xs : List Run) (place : ℕ) → length xs ≤ place → take place xs ≡ xs
-    take_all [] zero past = refl
-    take_all [] (suc place) past = refl
-    take_all (x ∷ xs) zero past = absurd (omega arith)
-    take_all (x ∷ xs) (suc place) past = ap (λ (l : List Run). x ∷ l) (take_all xs place (omega arith))
+runs_all runs place past = ap runs_of (to_end runs place past)

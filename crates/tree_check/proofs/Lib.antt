@@ -8,3 +8,5 @@ pub mod Passing
 pub mod Apart
 pub mod Fresh
 pub mod First
+pub mod Each
+pub mod Short

@@ -11,6 +11,7 @@ use Rattle.tree_check.specs.declared.fault.TreeFault.{TreeFault}
 use Rattle.tree_check.specs.declared.fault.TreeFault.TheVariants.{Item, Outside, Twice, Incoherent, Disk, OutOfMemory}
 use Rattle.tree_check.specs.declared.runs.Run.{Run}
 use Rattle.tree_check.specs.Blocks.{AreMarked, AreMore, IsMarkFault, IsOnceAnswer, blocks_checked, runs_of, trees_data}
+use Rattle.tree_check.proofs.Places.{to_end}
 use Rattle.tree_check.proofs.Checking.{is_fresh, is_outside, is_twice}
 
 pub mark_none : (blocks : ℕ) (marks : List Bool) → AreMore blocks marks marks []
@@ -82,13 +83,7 @@ none_marked blocks addresses fault fails = ap (blocks_checked blocks []) (sym (a
 -- ---- what the check of trees answers
 
 whole : (table : Table) (trees : List Tree) (place : ℕ) (runs : List Run) → length trees ≤ place → runs_of runs ≡ trees_data table (take place trees) → runs_of runs ≡ trees_data table trees
-whole table trees place runs past is = is ∙ ap (trees_data table) (take_all trees place past)
-  where
-    take_all : (xs : List Tree) (place : ℕ) → length xs ≤ place → take place xs ≡ xs
-    take_all [] zero past = refl
-    take_all [] (suc place) past = refl
-    take_all (x ∷ xs) zero past = absurd (omega arith)
-    take_all (x ∷ xs) (suc place) past = ap (λ (l : List Tree). x ∷ l) (take_all xs place (omega arith))
+whole table trees place runs past is = is ∙ ap (trees_data table) (to_end trees place past)
 
 fails_so : (table : Table) (trees : List Tree) (fault : TreeFault) → blocks_checked (length table.slots) [] (trees_data table trees) ≡ Err fault → IsOnceAnswer table trees (Err fault)
 fails_so table trees (Item at key why) h = h

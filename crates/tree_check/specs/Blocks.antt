@@ -77,7 +77,8 @@ pub record AreRead (seen : Option Image) (old new : Table) (addresses : List ℕ
 abbrev pub IsDataFault : Table → List ℕ → TreeFault → Type 0
 IsDataFault table addresses Disk = Unit {0}
 IsDataFault table addresses OutOfMemory = Unit {0}
-IsDataFault table addresses fault = (reached rest : List ℕ) → AreTaken table reached → blocks_checked (length table.slots) reached (addresses ++ rest) ≡ Err fault
+IsDataFault table addresses fault =
+    (reached rest : List ℕ) → AreTaken table reached → blocks_checked (length table.slots) reached (addresses ++ rest) ≡ Err fault
 
 -- ---- marks of the blocks of a volume
 
@@ -96,4 +97,5 @@ AreMore blocks old new addresses = (reached : List ℕ) → AreMarked blocks old
 
 -- this is the first fault of the blocks at these addresses, whatever comes behind them (own)
 abbrev pub IsMarkFault : ℕ → List Bool → List ℕ → TreeFault → Type 0
-IsMarkFault blocks marks addresses fault = (reached rest : List ℕ) → AreMarked blocks marks reached → blocks_checked blocks reached (addresses ++ rest) ≡ Err fault
+IsMarkFault blocks marks addresses fault =
+    (reached rest : List ℕ) → AreMarked blocks marks reached → blocks_checked blocks reached (addresses ++ rest) ≡ Err fault

@@ -7,7 +7,7 @@ use Rattle.blk_base.specs.declared.key.Addr.{Addr}
 use Rattle.blk_base.specs.declared.key.Key.{Key}
 use Rattle.blk_base.specs.Bytes.{IsBytes}
 use Rattle.blk_base.specs.ItemFaults.{IsSpelled, item_fault}
-use Rattle.blk_base.specs.Keys.{extent_data}
+use Rattle.blk_base.specs.Keys.{KeyFits, extent_data}
 use Rattle.blk_base.specs.Leaf.{Item}
 use Rattle.block_table.specs.declared.tree.Tree.{Tree}
 use Rattle.block_table.specs.Table.{Table}
@@ -54,7 +54,8 @@ and_then (Err fault) next = Err fault
 -- the same of the leaves at these byte addresses, one behind the other
 abbrev pub leaves_checked : Table → Option FileEnd → List ℕ → Result (Option FileEnd) TreeFault
 leaves_checked table before [] = Ok before
-leaves_checked table before (at ∷ leaves) = and_then (leaf_checked (record { 0 = at }) before (leaf_items table at)) (λ after. leaves_checked table after leaves)
+leaves_checked table before (at ∷ leaves) =
+    and_then (leaf_checked (record { 0 = at }) before (leaf_items table at)) (λ after. leaves_checked table after leaves)
 
 -- the byte addresses of the leaves below a block on this level, from left to right
 abbrev pub leaves_below : ℕ → Table → ℕ → List ℕ
@@ -71,11 +72,15 @@ items_answer table tree = and_then (leaves_checked table None (leaves_below tree
 abbrev pub AreBytes : List Item → Type 0
 AreBytes items = (key : Key) (bytes : List ℕ) → Contains items (key, bytes) → IsBytes bytes
 
+-- the items' keys fit their fields ("Key")
+abbrev pub HaveKeys : List Item → Type 0
+HaveKeys items = (key : Key) (bytes : List ℕ) → Contains items (key, bytes) → KeyFits key
+
 -- each item is spelled by the grammar of its key's type, and no two extents of a file cover one byte
 pub record AreRight (items : List Item) : Type 0 where
   pub spelled : (key : Key) (bytes : List ℕ) → Contains items (key, bytes) → IsSpelled key bytes
-  pub apart : (ino one two : ℕ) (first second : List ℕ) → Contains items (make_key ino extent_data one, first) → Contains items (make_key ino extent_data two, second) → one < two
-      → one + extent_len (make_key ino extent_data one) first ≤ two
+  pub apart : (ino one two : ℕ) (first second : List ℕ) → Contains items (make_key ino extent_data one, first)
+      → Contains items (make_key ino extent_data two, second) → one < two → one + extent_len (make_key ino extent_data one) first ≤ two
 
 -- ---- which fault is the first
 

@@ -1,5 +1,6 @@
 //! The checks of one item.
 ghost use Rattle.std.specs.Prelude.{◌≡◌};
+ghost use Rattle.blk_base.specs.Bytes.{IsBytes};
 ghost use Rattle.blk_base.specs.Entries.{entries_of, extrefs_of, refs_of};
 ghost use Rattle.blk_base.specs.Extents.{extent_of};
 ghost use Rattle.blk_base.specs.ItemFaults.{fault_of, item_fault};
@@ -120,7 +121,8 @@ fn is_below_end(before: Option<FileEnd>, key: &Key) -> bool
 
 /// The fault of an item behind one with this end: that of its own grammar first, and then Overlap.
 pub(crate) fn fault_behind(before: Option<FileEnd>, key: &Key, bytes: &[u8]) -> Option<ItemFault>
-    ensures { result ≡ fault_behind before (key.now, bytes.now) }
+    ensures fault { result ≡ fault_behind before (key.now, bytes.now) }
+    ensures bytes { IsBytes bytes.now }
 {
     if let Some(fault) = item_fault(key, bytes) {
         return Some(fault);

@@ -1,11 +1,12 @@
 //! The items of a tree, leaf by leaf.
-ghost use Rattle.std.specs.Prelude.{◌≡◌, Bool, Some, slice_get, ◌<◌, length};
-ghost use Rattle.tree_range.specs.Shape.{IsSubtree, IsTree};
-ghost use Rattle.tree_check.specs.Items.{items_answer, leaf_checked, leaves_below, leaves_checked};
+ghost use Rattle.std.specs.Prelude.{◌≡◌, Bool, Some, List, Ok, IsOk, slice_get, ◌<◌, length, OnOk};
+ghost use Rattle.blk_base.specs.Leaf.{Item, leaf_body_of};
+ghost use Rattle.tree_range.specs.Shape.{IsSubtree, IsTree, items_below, tree_items};
+ghost use Rattle.tree_check.specs.Items.{AreBytes, HaveKeys, items_answer, leaf_checked, leaves_below, leaves_checked};
 
 use crate::fault::TreeFault;
 use crate::item::{FileEnd, end_of, fault_behind};
-use blk_base::{Addr, Key};
+use blk_base::{Addr, Block, Key};
 use block_table::{BlockTable, Tree};
 use leaf_view::{LeafView, NodeView};
 
@@ -23,7 +24,8 @@ fn check_leaf(
     at: Addr,
     before: Option<FileEnd>,
 ) -> Result<Option<FileEnd>, TreeFault>
-    ensures { result ≡ leaf_checked at before leaf.now }
+    ensures answer { result ≡ leaf_checked at before leaf.now }
+    ensures bytes { OnOk result (AreBytes leaf.now) }
 {
     let mut end = before;
     for place in 0..leaf.len() {
@@ -36,6 +38,20 @@ fn check_leaf(
     Ok(end)
 }
 
+/// Checks the items of the leaf in a block at a byte address, and answers where the last of them ends.
+fn check_block(
+    block: &Block,
+    at: Addr,
+    before: Option<FileEnd>,
+) -> Result<Option<FileEnd>, TreeFault>
+    requires { IsOk (leaf_body_of block.now) }
+    ensures answer { (leaf : List Item) → leaf_body_of block.now ≡ Ok leaf → result ≡ leaf_checked at before leaf }
+    ensures bytes { (leaf : List Item) → leaf_body_of block.now ≡ Ok leaf → OnOk result (AreBytes leaf) }
+    ensures keys { (leaf : List Item) → leaf_body_of block.now ≡ Ok leaf → HaveKeys leaf }
+{
+    check_leaf(&LeafView::of_body(block), at, before)
+}
+
 /// Checks the items below a block on this level, and answers where the last of them ends.
 fn check_below(
     table: &BlockTable,
@@ -44,11 +60,13 @@ fn check_below(
     before: Option<FileEnd>,
 ) -> Result<Option<FileEnd>, TreeFault>
     requires { (is_root : Bool) × IsSubtree level table.now is_root at.0 }
-    ensures { result ≡ leaves_checked table.now before (leaves_below level table.now at.0) }
+    ensures answer { result ≡ leaves_checked table.now before (leaves_below level table.now at.0) }
+    ensures bytes { OnOk result (AreBytes (items_below level table.now at.0)) }
+    ensures keys { OnOk result (HaveKeys (items_below level table.now at.0)) }
 {
     let block = table.block(at);
     if level == 0 {
-        return check_leaf(&LeafView::of_body(block), at, before);
+        return check_block(block, at, before);
     }
     let node = NodeView::of_body(block);
     let mut end = before;
@@ -62,10 +80,12 @@ fn check_below(
 ///
 /// `Err`: `Item` with the first faulty item by rising keys and the byte address of the leaf that has it: the first check
 /// that it fails by the grammar of its key's type, and then `Overlap` for an extent that begins below the end of the
-/// extent before it in the same file. Takes no memory.
+/// extent before it in the same file. `Ok`: there is none, each key fits its fields, and each item's data are bytes. Takes no memory.
 pub fn items(table: &BlockTable, tree: &Tree) -> Result<(), TreeFault>
     requires { IsTree table.now tree.now }
-    ensures { result ≡ items_answer table.now tree.now }
+    ensures answer { result ≡ items_answer table.now tree.now }
+    ensures bytes { OnOk result (AreBytes (tree_items table.now tree.now)) }
+    ensures keys { OnOk result (HaveKeys (tree_items table.now tree.now)) }
 {
     check_below(table, tree.level, tree.root, None)?;
     Ok(())
