@@ -1,14 +1,14 @@
 -- What is read of an inode's item, and that an item with bytes is there.
-use Rattle.std.proofs.Common.{◌≡◌, ◌≢◌, ◌∙◌, ℕ, List, [], ◌∷◌, length, Option, Some, None, Result, Ok, Err, refl, sym, ap, subst, arith}
+use Rattle.std.proofs.Common.{◌≡◌, ◌≢◌, ◌∙◌, ℕ, List, [], ◌∷◌, length, Some, Result, Ok, refl, ap}
 use Rattle.blk_base.specs.declared.fault.ItemFault.{ItemFault}
 use Rattle.blk_base.specs.declared.key.Key.{Key}
-use Rattle.blk_base.specs.Items.{InodeValue, IsInode, inode_of}
+use Rattle.blk_base.specs.Items.{InodeValue, inode_of}
 use Rattle.blk_base.specs.Keys.{inode_item}
 use Rattle.blk_base.specs.Leaf.{Item}
 use Rattle.tree_range.specs.Between.{data_under}
 use Rattle.format_laws.specs.Items.{inode_of-Ok}
 use Rattle.item_inode.specs.declared.inode.InodeItem.{InodeItem}
-use Rattle.item_inode.specs.Inode.{answer_view, inode_view}
+use Rattle.item_inode.specs.Inode.{answer_view}
 use Rattle.volume_image.specs.Subvolume.{make_key}
 use Rattle.item_edit.specs.ItemEdit.{HasInode, item_bytes}
 

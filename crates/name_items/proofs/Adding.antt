@@ -1,5 +1,5 @@
 -- What stands under the keys of a name once it is added is what the subvolume with it asks for there.
-use Rattle.std.proofs.Common.{◌≡◌, ◌≢◌, ◌⊎◌, ◌∙◌, ◌+◌, ◌≤◌, ◌<◌, ◌^◌, ◌&&◌, ℕ, zero, suc, Bool, true, false, List, [], ◌∷◌, ◌++◌, length, map, nat_eq, Option, Some, None, refl, sym, ap, subst, inl, inr, arith, length-append}
+use Rattle.std.proofs.Common.{◌≡◌, ◌≢◌, ◌∙◌, ◌≤◌, ◌<◌, ◌^◌, ◌&&◌, ℕ, zero, suc, Bool, true, false, List, [], ◌∷◌, ◌++◌, length, map, nat_eq, Option, Some, None, refl, sym, ap, subst, inl, inr, arith, length-append}
 use Rattle.std.specs.Prelude.{All, Contains, filter}
 use Rattle.std.specs.FinMap.{get}
 use Rattle.std.specs.List.Sorted.{IsPermutation}
@@ -7,12 +7,11 @@ use Rattle.std.specs.Option.{unwrap_or}
 use Rattle.std.proofs.lemmas.Bool.{and_parts, eqb-true, false_from_ne_true}
 use Rattle.std.proofs.lemmas.List.{append-nil, map-append}
 use Rattle.std.proofs.lemmas.List.Elements.{All-contains_itself, All-weaker, Contains-append_right}
-use Rattle.std.proofs.lemmas.List.Sorted.{Contains-permutation, IsPermutation-cons, IsPermutation-refl, IsPermutation-to_front, IsPermutation-trans}
+use Rattle.std.proofs.lemmas.List.Sorted.{Contains-permutation, IsPermutation-cons, IsPermutation-to_front, IsPermutation-trans}
 use Rattle.blk_base.specs.declared.key.Key.{Key}
 use Rattle.blk_base.specs.Crc.{extref_hash_of, name_hash_of}
-use Rattle.blk_base.specs.Entries.{EntryFits, EntryValue, ExtRefValue, IsEntries, IsEntryKind, RefValue, dir_entry, entry_bytes, extref_bytes, file_entry, link_entry, ref_bytes}
-use Rattle.blk_base.specs.Items.{InodeValue}
-use Rattle.blk_base.specs.Keys.{dir_index, dir_item, inode_extref, inode_item, inode_ref}
+use Rattle.blk_base.specs.Entries.{EntryValue, ExtRefValue, IsEntries, RefValue, entry_bytes, extref_bytes, ref_bytes}
+use Rattle.blk_base.specs.Keys.{dir_index, dir_item, inode_extref, inode_ref}
 use Rattle.item_laws.specs.Apart.{NamesDiffer}
 use Rattle.tree_range.proofs.Under.{filter_none}
 use Rattle.flat_model.specs.Names.{FlatName}

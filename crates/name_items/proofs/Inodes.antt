@@ -1,6 +1,6 @@
 -- The inode items of a name's directory and of its inode, with the name and without it.
-use Rattle.std.proofs.Common.{◌≡◌, ◌≢◌, ◌∙◌, ◌+◌, ◌-◌, ◌*◌, ℕ, Bool, true, false, List, [], ◌∷◌, length, nat_eq, Option, Some, None, refl, sym, ap, subst, arith}
-use Rattle.std.specs.Prelude.{Contains, filter, sum_by}
+use Rattle.std.proofs.Common.{◌≡◌, ◌≢◌, ◌∙◌, ◌+◌, ◌*◌, ℕ, true, List, length, Option, Some, None, refl, sym, ap, subst, arith}
+use Rattle.std.specs.Prelude.{Contains, sum_by}
 use Rattle.std.specs.FinMap.{get}
 use Rattle.std.proofs.lemmas.Bool.{eq-eqb, ne_eqb, true≢false}
 use Rattle.blk_base.specs.declared.key.Key.{Key}
@@ -9,14 +9,13 @@ use Rattle.blk_base.specs.Keys.{inode_item}
 use Rattle.flat_model.specs.Names.{FlatName, add_name, entries_of, is_name_set, leads_to, links_of, names_of, remove_name, stands_in}
 use Rattle.flat_model.specs.Records.{DirInode, DirRecord, FileInode, InodeRecord, LinkInode}
 use Rattle.flat_model.specs.Volume.{Subvolume}
-use Rattle.flat_model.proofs.Maps.{some_none, some_same}
+use Rattle.flat_model.proofs.Maps.{some_same}
 use Rattle.flat_model.proofs.NameSets.{filter_add_name, filter_add_other, filter_remove_name, filter_remove_other, is_name_set_filter, length_add_name, length_remove_name, sum_by_add_name, sum_by_remove_name}
-use Rattle.volume_image.specs.Subvolume.{Data, InodeAsked, IsAsked, IsInodeOf, make_key, mode_of, nlink_of, size_of}
+use Rattle.volume_image.specs.Subvolume.{Data, InodeAsked, IsAsked, IsInodeOf, make_key, mode_of}
 use Rattle.volume_image.proofs.Asked.{asked_inode}
 use Rattle.volume_image.proofs.Members.{filter_in, in_filter}
 use Rattle.table_volume.specs.Keyed.{AsksAttributes, AsksExtRefs, AsksHashed, AsksIndexed, AsksInode, AsksRefs, AsksTarget, DoesAsk, HoldsKey}
 use Rattle.name_items.specs.Edits.{with_links, with_size}
-use Rattle.name_items.proofs.AskedLists.{with_name, without_name}
 
 -- ---- what stands under an inode's key
 

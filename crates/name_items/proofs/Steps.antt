@@ -1,27 +1,19 @@
 -- Steps that edits of names have in common: tests joined by or, keys of different types, and what bears a generation.
-use Rattle.std.proofs.Common.{◌≡◌, ◌≢◌, ◌⊎◌, ◌∙◌, ◌++◌, ◌&&◌, ◌||◌, ℕ, Bool, true, false, List, [], ◌∷◌, nat_eq, Option, Some, None, refl, sym, ap, subst, inl, inr, arith}
-use Rattle.std.specs.Prelude.{All, Contains, not}
-use Rattle.std.specs.List.{AllByRecursion}
-use Rattle.std.specs.Option.{unwrap_or}
+use Rattle.std.proofs.Common.{◌≡◌, ◌≢◌, ◌⊎◌, ◌∙◌, ◌||◌, ℕ, Bool, true, false, List, [], ◌∷◌, nat_eq, refl, sym, ap, subst, inl, inr, arith}
+use Rattle.std.specs.Prelude.{All, Contains}
 use Rattle.std.proofs.lemmas.Bool.{eq-eqb}
-use Rattle.std.proofs.lemmas.List.Elements.{All-contains_itself, All-weaker, Contains-append_cases}
+use Rattle.std.proofs.lemmas.List.Elements.{All-contains_itself, All-weaker}
 use Rattle.blk_base.specs.declared.key.Key.{Key}
-use Rattle.blk_base.specs.Bytes.{field}
 use Rattle.blk_base.specs.Crc.{extref_hash_of, name_hash_of}
 use Rattle.blk_base.specs.Entries.{EntryValue, IsEntries}
-use Rattle.blk_base.specs.ItemFaults.{IsEntriesKind}
 use Rattle.blk_base.specs.Items.{InodeValue, IsInode}
-use Rattle.blk_base.specs.Keys.{dir_index, dir_item, extent_data, inode_extref, inode_item, inode_ref, xattr_item}
+use Rattle.blk_base.specs.Keys.{dir_index, dir_item, inode_extref, inode_item, inode_ref}
 use Rattle.blk_base.specs.Leaf.{Item}
-use Rattle.tree_range.specs.Between.{data_under}
-use Rattle.tree_range.proofs.Found.{contains_under}
 use Rattle.flat_model.specs.Names.{FlatName}
-use Rattle.flat_model.proofs.Maps.{some_none}
 use Rattle.volume_image.specs.Subvolume.{make_key}
-use Rattle.volume_image.proofs.Lists.{in_cons, in_nothing}
 use Rattle.volume_image.proofs.Spellings.{entries_are_one}
 use Rattle.table_volume.specs.Edited.{HadEntry}
-use Rattle.table_volume.specs.Keyed.{does_name_count, is_touched}
+use Rattle.table_volume.specs.Keyed.{is_touched}
 use Rattle.item_edit.specs.ItemEdit.{BearsUnder}
 use Rattle.name_items.specs.Names.{hashed_key, indexed_key, ref_key}
 

@@ -1,16 +1,15 @@
 -- What stands under a key of each type, as the entries that are there; and entries as what stands there.
 use Rattle.std.proofs.Common.{◌≡◌, ◌≢◌, ◌⊎◌, ◌∙◌, ◌≤◌, ◌<◌, ◌^◌, ℕ, zero, suc, List, [], ◌∷◌, ◌++◌, length, map, Option, Some, None, IsSome, refl, sym, ap, subst, inl, inr, arith}
 use Rattle.std.specs.Prelude.{Contains, slice_get}
-use Rattle.std.specs.List.{AllByRecursion, flat_map}
+use Rattle.std.specs.List.{flat_map}
 use Rattle.std.specs.Option.{unwrap_or}
-use Rattle.std.specs.FinMap.{get}
 use Rattle.std.specs.List.Sorted.{IsPermutation}
 use Rattle.std.proofs.lemmas.Bool.{true≢false}
 use Rattle.std.proofs.lemmas.List.{length-map}
 use Rattle.std.proofs.lemmas.List.Sorted.{IsPermutation-refl, length_permutation}
 use Rattle.blk_base.specs.declared.key.Key.{Key}
-use Rattle.blk_base.specs.Entries.{EntryFits, EntryValue, ExtRefValue, IsEntries, IsEntryKind, IsExtRefs, IsRefName, IsRefs, RefValue, entry_bytes, extref_bytes, ref_bytes}
-use Rattle.blk_base.specs.Keys.{dir_index, dir_item, extent_data, inode_extref, inode_item, inode_ref, xattr_item}
+use Rattle.blk_base.specs.Entries.{EntryFits, EntryValue, ExtRefValue, IsEntries, IsEntryKind, IsRefName, RefValue, entry_bytes, extref_bytes, ref_bytes}
+use Rattle.blk_base.specs.Keys.{dir_index, dir_item, inode_extref, inode_ref}
 use Rattle.blk_base.specs.Name.{IsName}
 use Rattle.item_laws.specs.Apart.{NamesDiffer}
 use Rattle.item_laws.specs.Spelling.{all_both, all_weaker}

@@ -1,10 +1,10 @@
 -- Which names may be added to a subvolume on its tree, and which may go; and the items that a name has an entry in.
-use Rattle.std.specs.Prelude.{◌≡◌, ◌≢◌, ◌≤◌, ◌<◌, ◌+◌, ◌*◌, ◌^◌, ℕ, Bool, true, false, List, length, sum_by, Some, Contains, IsTrue, if◌then◌else◌}
+use Rattle.std.specs.Prelude.{◌≡◌, ◌≢◌, ◌≤◌, ◌<◌, ◌+◌, ◌*◌, ◌^◌, ℕ, true, false, List, length, sum_by, Some, Contains, IsTrue, if◌then◌else◌}
 use Rattle.std.specs.FinMap.{get}
 use Rattle.blk_base.specs.declared.key.Key.{Key}
 use Rattle.blk_base.specs.Crc.{extref_hash_of, name_hash_of}
-use Rattle.blk_base.specs.Entries.{EntryValue, extref_bytes, ref_bytes}
-use Rattle.blk_base.specs.Keys.{dir_index, dir_item, inode_extref, inode_item, inode_ref}
+use Rattle.blk_base.specs.Entries.{extref_bytes, ref_bytes}
+use Rattle.blk_base.specs.Keys.{dir_index, dir_item, inode_extref, inode_ref}
 use Rattle.blk_base.specs.Name.{IsName}
 use Rattle.flat_model.specs.Coherent.{most_links}
 use Rattle.flat_model.specs.Lengths.{dir_item_length, entry_length, extref_item_length, extref_length, most_item_bytes, ref_item_length, ref_length}

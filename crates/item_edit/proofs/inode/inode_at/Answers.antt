@@ -1,9 +1,7 @@
-use Rattle.std.proofs.Common.{◌≡◌, ◌∙◌, ℕ, Some, Ok, sym, ap}
-use Rattle.blk_base.specs.Items.{InodeValue}
+use Rattle.std.proofs.Common.{◌≡◌, ◌∙◌, Some, Ok, sym, ap}
 use Rattle.tree_range.specs.Between.{data_under, data_view}
 use Rattle.tree_range.specs.Shape.{tree_items}
 use Rattle.item_inode.specs.Inode.{answer_view, inode_view}
-use Rattle.item_edit.specs.ItemEdit.{HasInode}
 use Rattle.item_edit.proofs.Inodes.{inode_read}
 use Rattle.item_edit.proofs.inode.inode_at.Goals as goal
 

@@ -1,4 +1,4 @@
-use Rattle.std.proofs.Common.{◌≡◌, ◌∙◌, ◌+◌, ◌-◌, ◌++◌, ℕ, List, length, take, Option, Some, sym, ap, subst, arith}
+use Rattle.std.proofs.Common.{◌≡◌, ◌∙◌, ◌+◌, ◌++◌, ℕ, List, length, take, Some, ap, subst, arith}
 use Rattle.tree_range.specs.Shape.{tree_items}
 use Rattle.item_edit.specs.ItemEdit.{IsItemEdit, bytes_under}
 use Rattle.item_edit.proofs.Front.{written_front}

@@ -1,4 +1,4 @@
-use Rattle.std.proofs.Common.{◌≡◌, ◌≢◌, ◌∙◌, ◌+◌, ◌-◌, ◌++◌, ℕ, List, length, take, drop, Option, Some, sym, ap, subst, arith, length-take}
+use Rattle.std.proofs.Common.{◌≡◌, ◌≢◌, ◌∙◌, ◌++◌, ℕ, List, length, take, drop, Option, Some, sym, ap, subst, arith, length-take}
 use Rattle.tree_range.specs.Shape.{tree_items}
 use Rattle.item_edit.specs.ItemEdit.{IsItemEdit, bytes_under, item_bytes}
 use Rattle.item_edit.proofs.Inodes.{item_bytes_some}

@@ -1,10 +1,9 @@
-use Rattle.std.proofs.Common.{◌≡◌, ◌++◌, ℕ, List, Option, Some, subst}
+use Rattle.std.proofs.Common.{◌++◌, ℕ, List, Some, subst}
 use Rattle.blk_base.specs.declared.key.Key.{Key}
-use Rattle.blk_base.specs.Entries.{entry_bytes}
 use Rattle.tree_range.specs.Shape.{tree_items}
 use Rattle.item_edit.specs.ItemEdit.{IsItemEdit, bytes_under}
-use Rattle.name_items.specs.Names.{hashed_key as key_hashed, indexed_key as key_indexed, name_of}
-use Rattle.name_items.specs.Edits.{AddsEntries, made_entry}
+use Rattle.name_items.specs.Names.{name_of}
+use Rattle.name_items.specs.Edits.{AddsEntries}
 use Rattle.name_items.proofs.items.add_entries_by.Goals as goal
 
 pub returns : goal.returns

@@ -1,6 +1,5 @@
-use Rattle.std.proofs.Common.{◌++◌, ℕ, List, Option, Some, ap, subst, ◌≡◌}
+use Rattle.std.proofs.Common.{◌++◌, ℕ, List, Some, subst, ◌≡◌}
 use Rattle.blk_base.specs.declared.key.Key.{Key}
-use Rattle.blk_base.specs.Entries.{extref_bytes}
 use Rattle.tree_range.specs.Shape.{tree_items}
 use Rattle.item_edit.specs.ItemEdit.{IsItemEdit, bytes_under}
 use Rattle.name_items.specs.Names.{name_of, ref_key as key_of_ref}
