@@ -2,7 +2,7 @@ use Rattle.std.proofs.Common.{◌≤◌, ℕ, List, length, sym, subst}
 use Rattle.flat_model.specs.Coherent.{AreBytes}
 use Rattle.flat_model.specs.Operations.{make}
 use Rattle.flat_model.specs.Records.{new_link}
-use Rattle.name_ops.specs.Operated.{IsOperated}
+use Rattle.table_volume.specs.Operated.{IsOperated}
 use Rattle.name_ops.proofs.making.symlink.Goals as goal
 
 pub make-requires-clause-new : goal.make-requires-clause-new
