@@ -136,7 +136,8 @@ pub fn file_block<'t>(
                 }
                 block_at(table, Addr(at.0.wrapping_add(behind)))
             }
-            Ok(_) => None,
+            Ok(Extent::Inline(_)) => None,
+            Ok(Extent::Hole { .. }) => None,
             Err(_) => None,
         },
         None => None,

@@ -6,7 +6,9 @@
 #![tactic(auto)]
 
 mod extents;
-mod read;
+mod reading;
+#[cfg(test)]
+mod tests;
 
 pub use extents::file_block;
-pub use read::read;
+pub use reading::read;
