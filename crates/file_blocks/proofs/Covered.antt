@@ -70,7 +70,7 @@ module _ (table : Table) (tree : Tree) (sub : Subvolume) (ino : ℕ) (file : Fil
         | inl same ↦
             let keys : make_key ino extent_data cover.offset ≡ key = ap (λ (n : ℕ). make_key ino extent_data n) same ∙ sym key_is in
             let both : Some cover.bytes ≡ Some bytes = sym (found_under (tree_items table tree) (make_key ino extent_data cover.offset) cover.bytes gives.tree_in.order cover.there)
-                ∙ ap (λ (k : Key). data_under k (tree_items table tree)) keys ∙ found_under (tree_items table tree) key bytes gives.tree_in.order last.there in
+            ∙ ap (λ (k : Key). data_under k (tree_items table tree)) keys ∙ found_under (tree_items table tree) key bytes gives.tree_in.order last.there in
             let content : cover.bytes ≡ bytes = some_same cover.bytes bytes both in
             let size : extent_len (make_key ino extent_data cover.offset) cover.bytes ≡ run.len = (λ i. extent_len (keys i) (content i)) ∙ run.size in
             omega (arith, cover.to, size, same)
@@ -108,9 +108,10 @@ module _ (table : Table) (tree : Tree) (sub : Subvolume) (ino : ℕ) (file : Fil
       let block = run.holds i inside in
       let place : run.at + 4096 * i ≡ run.at + (4096 * number - key.offset) = omega (arith, run.aligned, last.before) in
       let which : key.offset / 4096 + i ≡ number = omega (arith, run.aligned, last.before) in
-      let data_is : data_in table (run.at + (4096 * number - key.offset)) ≡ Some block.0 = ap (data_in table) (sym place) ∙ block.1 in
-      (data_is ∙ sym (ap (get file.blocks) (sym which) ∙ block.2),
-        λ free. some_none block.0 (sym data_is ∙ ap (λ (b : Bool). if b then None else Some (block_at table (run.at + (4096 * number - key.offset))).bytes) (ap is_free free)))
+      let data_is : data_in table (run.at + (4096 * number - key.offset)) ≡ Some block.0 = ap (data_in table) (sym place) ∙ block.1 in (
+        data_is ∙ sym (ap (get file.blocks) (sym which) ∙ block.2),
+        λ free. some_none block.0 (sym data_is ∙ ap (λ (b : Bool). if b then None else Some (block_at table (run.at + (4096 * number - key.offset))).bytes) (ap is_free free)),
+      )
 
 pub taken_below : (table : Table) (at : ℕ) → length table.slots < 2 ^ 32 → (block_at table at).state ≢ Free → at < 2 ^ 64
 taken_below table at small taken =
