@@ -1,5 +1,5 @@
 -- The last extent that begins at a block or in front of it.
-use Rattle.std.proofs.Common.{◌≡◌, ◌≢◌, ◌⊎◌, ◌≤◌, ◌<◌, ◌+◌, ◌*◌, ◌%◌, ℕ, Bool, true, false, not, List, [], ◌∷◌, Option, Some, None, MatchOption, nat_lt, refl, sym, ap, subst, ◌∙◌, arith, inl, inr}
+use Rattle.std.proofs.Common.{◌≡◌, ◌≢◌, ◌⊎◌, ◌≤◌, ◌<◌, ◌+◌, ◌*◌, ◌%◌, ℕ, Bool, true, false, not, List, [], ◌∷◌, Option, Some, None, MatchOption, nat_lt, refl, sym, ap, subst, arith, inl, inr}
 use Rattle.std.specs.Prelude.{Contains}
 use Rattle.std.specs.Borrow.{Bor}
 use Rattle.std.proofs.lemmas.Bool.{cases_Bool, cases_eq, ltb-false, ltb-true}
@@ -7,7 +7,7 @@ use Rattle.std.proofs.lemmas.Bool.Decides.{nat_tests}
 use Rattle.blk_base.specs.declared.key.Key.{Key}
 use Rattle.blk_base.specs.Keys.{extent_data, key_below}
 use Rattle.blk_base.specs.Leaf.{Item}
-use Rattle.tree_range.specs.Between.{item_view, items_between, items_from}
+use Rattle.tree_range.specs.Between.{item_view, items_from}
 use Rattle.volume_image.specs.Subvolume.{make_key}
 use Rattle.volume_image.proofs.Lists.{in_nothing}
 use Rattle.volume_image.proofs.Members.{filter_in, in_filter}

@@ -1,7 +1,6 @@
 -- The last extent in front of the block holds it, or none does.
-use Rattle.std.proofs.Common.{◌≡◌, ◌<◌, ◌+◌, ◌-◌, ◌*◌, ◌%◌, ◌^◌, ℕ, List, Option, Some, None, Ok, Err, sym, ap, subst, ◌∙◌, arith}
-use Rattle.std.specs.FinMap.{get}
-use Rattle.blk_base.specs.Extents.{Regular, extent_of}
+use Rattle.std.proofs.Common.{◌≡◌, ◌<◌, ◌+◌, ◌-◌, ◌*◌, ◌%◌, ◌^◌, Ok, sym, ap, ◌∙◌, arith}
+use Rattle.blk_base.specs.Extents.{Regular}
 use Rattle.table_volume.specs.Gives.{data_in}
 use Rattle.item_extent.specs.declared.extent.Extent.{Extent}
 use Rattle.file_blocks.proofs.Covered.{behind_covers, no_fault, no_hole, no_inline, none_covers, run_of, same_at, same_len, shown, taken_below, within_covers}

@@ -1,5 +1,5 @@
 -- A hole reads as zeros.
-use Rattle.std.proofs.Common.{◌≡◌, ℕ, replicate, slice_index, unwrap_or, List, Option, sym, ap, ◌∙◌}
+use Rattle.std.proofs.Common.{ℕ, replicate, slice_index, unwrap_or, List, Option, sym, ap, ◌∙◌}
 use Rattle.std.specs.Borrow.{Bor}
 use Rattle.file_blocks.specs.Runs.{block_view}
 use Rattle.file_blocks.proofs.Parts.{zero_byte}

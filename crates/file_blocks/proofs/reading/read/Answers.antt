@@ -1,9 +1,8 @@
 -- One part of the bytes behind another.
-use Rattle.std.proofs.Common.{◌≡◌, ◌+◌, ◌-◌, ◌++◌, ℕ, List, Some, min, map, sym, ap, subst, ◌∙◌, arith}
+use Rattle.std.proofs.Common.{◌≡◌, ◌+◌, ◌-◌, ◌++◌, ℕ, List, min, map, ap, subst, ◌∙◌, arith}
 use Rattle.std.specs.List.{range_with_len}
 use Rattle.std.specs.Result.{IfOk}
 use Rattle.flat_model.specs.Contents.{byte_at, bytes_read}
-use Rattle.flat_model.specs.Records.{FileRecord}
 use Rattle.file_blocks.proofs.Parts.{read_more}
 use Rattle.file_blocks.proofs.reading.read.Goals as goal
 
