@@ -38,6 +38,17 @@ pub fn remove_item(table: &mut BlockTable, tree: &mut Tree, key: Key)
     delete(table, tree, &key);
 }
 
+/// How many bytes stand under a key; 0 where the tree hasn't it.
+pub fn item_len(table: &BlockTable, tree: &Tree, key: &Key) -> usize
+    requires { IsTree table.now tree.now }
+    ensures { result ≡ length (bytes_under key.now (tree_items table.now tree.now)) }
+{
+    match get(table, tree, key) {
+        Some(bytes) => bytes.len(),
+        None => 0,
+    }
+}
+
 /// Copies the bytes under a key to the front, and tells how many they are.
 fn copy_item(table: &BlockTable, tree: &Tree, key: &Key, into: &mut [u8; MOST_ITEM_BYTES]) -> usize
     requires tree { IsTree table.now tree.now }

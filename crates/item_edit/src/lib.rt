@@ -4,6 +4,8 @@
 
 mod inode;
 mod item;
+#[cfg(test)]
+mod tests;
 
 pub use inode::{inode_at, write_inode};
-pub use item::{append_bytes, cut_bytes, remove_item, write_item};
+pub use item::{append_bytes, cut_bytes, item_len, remove_item, write_item};

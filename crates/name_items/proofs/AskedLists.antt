@@ -21,18 +21,18 @@ without_name sub name = record sub { names = remove_name name sub.names }
 
 -- ---- the tests that a name passes under its own keys
 
-near_passes : (name : FlatName) → name.near ≡ true → (name.near && (nat_eq name.ino name.ino && nat_eq name.dir name.dir)) ≡ true
+pub near_passes : (name : FlatName) → name.near ≡ true → (name.near && (nat_eq name.ino name.ino && nat_eq name.dir name.dir)) ≡ true
 near_passes name near = rw (near, eq-eqb name.ino name.ino refl, eq-eqb name.dir name.dir refl) refl
 
-far_passes : (name : FlatName) → name.near ≡ false → (not name.near && (nat_eq name.ino name.ino && nat_eq (extref_hash_of name.dir name.bytes) (extref_hash_of name.dir name.bytes))) ≡ true
+pub far_passes : (name : FlatName) → name.near ≡ false → (not name.near && (nat_eq name.ino name.ino && nat_eq (extref_hash_of name.dir name.bytes) (extref_hash_of name.dir name.bytes))) ≡ true
 far_passes name far =
     rw (far, eq-eqb name.ino name.ino refl, eq-eqb (extref_hash_of name.dir name.bytes) (extref_hash_of name.dir name.bytes) refl) refl
 
-hashed_passes : (name : FlatName) → (nat_eq name.dir name.dir && nat_eq (name_hash_of name.bytes) (name_hash_of name.bytes)) ≡ true
+pub hashed_passes : (name : FlatName) → (nat_eq name.dir name.dir && nat_eq (name_hash_of name.bytes) (name_hash_of name.bytes)) ≡ true
 hashed_passes name =
     rw (eq-eqb name.dir name.dir refl, eq-eqb (name_hash_of name.bytes) (name_hash_of name.bytes) refl) refl
 
-indexed_passes : (name : FlatName) → (nat_eq name.dir name.dir && nat_eq name.index name.index) ≡ true
+pub indexed_passes : (name : FlatName) → (nat_eq name.dir name.dir && nat_eq name.index name.index) ≡ true
 indexed_passes name = rw (eq-eqb name.dir name.dir refl, eq-eqb name.index name.index refl) refl
 
 -- ---- a list behind another, with one element more

@@ -4,7 +4,7 @@ use Rattle.std.specs.FinMap.{get}
 use Rattle.std.specs.Option.{unwrap_or}
 use Rattle.blk_base.specs.declared.key.Key.{Key}
 use Rattle.blk_base.specs.Crc.{extref_hash_of, name_hash_of}
-use Rattle.blk_base.specs.Items.{InodeValue, IsInode}
+use Rattle.blk_base.specs.Items.{InodeValue, IsInode, inode_value}
 use Rattle.blk_base.specs.Keys.{dir_item, inode_extref, inode_item, inode_ref}
 use Rattle.blk_base.specs.Leaf.{Item}
 use Rattle.block_table.specs.declared.tree.Tree.{Tree}
@@ -16,12 +16,13 @@ use Rattle.flat_model.specs.Lengths.{dir_item_length, entry_length, extref_item_
 use Rattle.flat_model.specs.Names.{FlatName, links_of}
 use Rattle.flat_model.specs.Records.{DirInode, FileInode, InodeRecord, LinkInode}
 use Rattle.flat_model.specs.Volume.{Subvolume}
-use Rattle.volume_image.specs.Subvolume.{make_key, nlink_of, size_of}
+use Rattle.flat_model.proofs.Maps.{some_same}
+use Rattle.volume_image.specs.Subvolume.{make_key, mode_of, nlink_of, size_of}
 use Rattle.volume_image.proofs.ItemLengths.{dir_item_has_length, extref_item_has_length, ref_item_has_length}
 use Rattle.table_volume.specs.Gives.{GivesSubvolume, data_in}
 use Rattle.table_volume.proofs.Keyed.{keys_hold}
 use Rattle.item_edit.specs.ItemEdit.{HasInode, bytes_under}
-use Rattle.name_items.specs.Names.{MayAddName, hashed_key, names_size, ref_entry, ref_key}
+use Rattle.name_items.specs.Names.{MayAddName, MayRemoveName, hashed_key, names_size, ref_entry, ref_key}
 use Rattle.name_items.proofs.Inodes.{InodeThere, inode_before}
 
 module _ (table : Table) (tree : Tree) (s : Subvolume) (gives : GivesSubvolume table tree s) where
@@ -29,6 +30,7 @@ module _ (table : Table) (tree : Tree) (s : Subvolume) (gives : GivesSubvolume t
   pub record HasItem (ino : ℕ) (inode : InodeRecord) : Type 0 where
     pub value : InodeValue
     pub has : HasInode (tree_items table tree) ino value
+    pub mode : value.mode ≡ mode_of inode
     pub size : value.size ≡ size_of s ino inode
     pub nlink : value.nlink ≡ nlink_of s ino inode
 
@@ -39,6 +41,7 @@ module _ (table : Table) (tree : Tree) (s : Subvolume) (gives : GivesSubvolume t
       record {
         value = b.right.value;
         has = record { bytes = b.bytes; there = b.is; spelled = b.right.spelled };
+        mode = b.right.mode;
         size = b.right.size;
         nlink = b.right.nlink;
       }
@@ -75,6 +78,28 @@ module _ (table : Table) (tree : Tree) (s : Subvolume) (gives : GivesSubvolume t
 
     pub entry_fits : length (bytes_under (hashed_key name) (tree_items table tree)) + (30 + length name.bytes) ≤ 3970
     entry_fits = omega (arith, hashed_under name.dir (name_hash_of name.bytes), may.entry_fits)
+
+module _ (table : Table) (tree : Tree) (s : Subvolume) (gives : GivesSubvolume table tree s) (name : FlatName) (may : MayRemoveName s name) where
+  remove_by : (b : Bool) → name.near ≡ b → length (bytes_under (ref_key name) (tree_items table tree)) ≤ 3970
+  remove_by true near =
+      let here : length (bytes_under (make_key name.ino inode_ref name.dir) (tree_items table tree)) ≤ 3970 = omega (arith, near_under table tree s gives name.ino name.dir may.not_root, may.near_fits near) in
+      rw near here
+  remove_by false far =
+      let hash : ℕ = extref_hash_of name.dir name.bytes in
+      let here : length (bytes_under (make_key name.ino inode_extref hash) (tree_items table tree)) ≤ 3970 = omega (arith, far_under table tree s gives name.ino hash, may.far_fits far) in
+      rw far here
+
+  pub remove_ref_fits : length (bytes_under (ref_key name) (tree_items table tree)) ≤ 3970
+  remove_ref_fits = remove_by name.near refl
+
+  pub remove_entry_fits : length (bytes_under (hashed_key name) (tree_items table tree)) ≤ 3970
+  remove_entry_fits = omega (arith, hashed_under table tree s gives name.dir (name_hash_of name.bytes), may.entry_fits)
+
+-- an inode's item says one thing
+pub one_inode : (items : List Item) (ino : ℕ) (one two : InodeValue) → HasInode items ino one → HasInode items ino two → one ≡ two
+one_inode items ino one two a b =
+    let same : a.bytes ≡ b.bytes = some_same a.bytes b.bytes (sym a.there ∙ b.there) in
+    sym a.spelled.value ∙ ap inode_value same ∙ b.spelled.value
 
 -- the number of names in an inode's item is small
 pub nlink_small : (s : Subvolume) (ino : ℕ) (inode : InodeRecord) (most : ℕ) → 1 ≤ most → links_of s.names ino ≤ most → nlink_of s ino inode ≤ most

@@ -5,6 +5,7 @@ use Rattle.std.specs.List.{AllByRecursion, flat_map}
 use Rattle.std.proofs.lemmas.Grind.{flat_map-append}
 use Rattle.std.proofs.lemmas.List.{append-nil}
 use Rattle.std.proofs.Math.Seq.{drop-append_seam, take-append_seam}
+use Rattle.name_items.specs.Places.{IsPlaced}
 
 -- entries that are good, spelled one behind the other
 pub record IsHeld {E : Type 0} (spell : E → List ℕ) (Good : E → Type 0) (bytes : List ℕ) (found : List E) : Type 0 where
@@ -23,14 +24,6 @@ module _ {E : Type 0} (Good : E → Type 0) where
   pub all_back : (xs ys : List E) → AllByRecursion Good (xs ++ ys) → AllByRecursion Good ys
   all_back [] ys h = h
   all_back (x ∷ xs) ys h = all_back xs ys h.1
-
--- an entry of an item that lies from one byte to another
-pub record IsPlaced {E : Type 0} (spell : E → List ℕ) (found : List E) (entry : E) (from to : ℕ) : Type 0 where
-  pub lefts : List E
-  pub rights : List E
-  pub parts : found ≡ lefts ++ (entry ∷ rights)
-  pub from_is : from ≡ length (flat_map spell lefts)
-  pub to_is : to ≡ from + length (spell entry)
 
 module _ {E : Type 0} (spell : E → List ℕ) (Good : E → Type 0) where
   pub held_more : (bytes : List ℕ) (found : List E) (entry : E) → IsHeld spell Good bytes found → Good entry → IsHeld spell Good (bytes ++ spell entry) (found ++ (entry ∷ []))

@@ -6,5 +6,10 @@ pub mod AskedLists
 pub mod Inodes
 pub mod Adding
 pub mod Steps
-pub mod AddedName
 pub mod Found
+pub mod NameEdit
+pub mod AddedName
+pub mod Seen
+pub mod Opened
+pub mod Removing
+pub mod RemovedName

@@ -42,16 +42,19 @@ with_size value size transid = record value { size = size; transid = transid }
 abbrev pub with_links : InodeValue → ℕ → ℕ → InodeValue
 with_links value links transid = record value { nlink = links; transid = transid }
 
--- The edits that add a name: its entry with its inode, those in its directory, the directory's size and the inode's number of
--- names; one edit of the tree behind the other (own).
-pub record AddsName (old new : Table) (before after : Tree) (name : FlatName) (dir inode : InodeValue) (running : ℕ) : Type 0 where
+-- The edits of a name's items, which then have these bytes, or are gone: of its inode, of its directory by hash and by index; and
+-- of the directory's size and the inode's number of names; one edit of the tree behind the other (own).
+pub record NameEdits (old new : Table) (before after : Tree) (name : FlatName) (ref_now hashed_now indexed_now : Option (List ℕ)) (dir inode : InodeValue) (size links running : ℕ) : Type 0 where
   pub t1 : Table
   pub t2 : Table
   pub t3 : Table
+  pub t4 : Table
   pub r1 : Tree
   pub r2 : Tree
   pub r3 : Tree
-  pub linked : IsItemEdit old t1 before r1 (ref_key name) (Some (bytes_under (ref_key name) (tree_items old before) ++ ref_entry name))
-  pub listed : AddsEntries t1 t2 r1 r2 name (entry_bytes (made_entry name (kind_of_mode inode.mode) running))
-  pub sized : IsItemEdit t2 t3 r2 r3 (make_key name.dir inode_item 0) (Some (inode_bytes (with_size dir (dir.size + 2 * length name.bytes) running)))
-  pub counted : LinksInode t3 new r3 after name.ino inode (with_links inode (inode.nlink + 1) running)
+  pub r4 : Tree
+  pub linked : IsItemEdit old t1 before r1 (ref_key name) ref_now
+  pub hashed : IsItemEdit t1 t2 r1 r2 (hashed_key name) hashed_now
+  pub indexed : IsItemEdit t2 t3 r2 r3 (indexed_key name) indexed_now
+  pub sized : IsItemEdit t3 t4 r3 r4 (make_key name.dir inode_item 0) (Some (inode_bytes (with_size dir size running)))
+  pub counted : LinksInode t4 new r4 after name.ino inode (with_links inode links running)

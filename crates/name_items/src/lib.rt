@@ -3,8 +3,12 @@
 #![tactic(auto)]
 
 mod add;
+mod cut;
 mod entry;
 mod items;
+mod place;
+mod remove;
 
 pub use add::add_name;
 pub use entry::NameEntry;
+pub use remove::remove_name;

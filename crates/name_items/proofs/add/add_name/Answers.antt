@@ -15,10 +15,11 @@ use Rattle.item_inode.specs.Inode.{inode_view}
 use Rattle.item_edit.specs.ItemEdit.{HasInode, bytes_under}
 use Rattle.item_edit.proofs.Files.{now_other}
 use Rattle.table_volume.specs.Gives.{tree_data}
-use Rattle.table_volume.proofs.SubEdits.{tree_as_sub}
 use Rattle.name_items.specs.Names.{hashed_key, name_of, ref_entry, ref_key}
-use Rattle.name_items.specs.Edits.{AddsEntries, AddsName, IsDir, IsOther, made_entry}
-use Rattle.name_items.proofs.AddedName.{IsAdding, gives_next, whole_edit, whole_files}
+use Rattle.name_items.specs.Edits.{AddsEntries, IsDir, IsOther, NameEdits, kind_of_mode, made_entry}
+use Rattle.name_items.proofs.AddedName.{IsAdding, adding, listed_hashed}
+use Rattle.name_items.proofs.AskedLists.{with_name}
+use Rattle.name_items.proofs.NameEdit.{made_so}
 use Rattle.name_items.proofs.Found.{HasItem, entry_fits, has_item, nlink_small, ref_fits}
 use Rattle.name_items.proofs.Steps.{not_ref}
 use Rattle.name_items.proofs.add.add_name.Goals as goal
@@ -82,15 +83,21 @@ returns-then-inode-ne-DIR_MODE-clause-made c = λ s gives may.
     let ino_item = has_item table tree s gives name.ino may.inode may.inode_there in
     let dir_has : HasInode (tree_items table tree) name.dir dir = subst (HasInode (tree_items table tree) name.dir) (sym (c.inode_at-dir.ensures dir_item.value dir_item.has)) dir_item.has in
     let inode_has : HasInode (tree_items table tree) name.ino inode = subst (HasInode (tree_items table tree) name.ino) (sym (c.inode_at-inode.ensures ino_item.value ino_item.has)) ino_item.has in
-    let adds : AddsName table new tree after.tree name dir inode running = record {
+    let items : List Item = tree_items table tree in
+    let entry : List ℕ = entry_bytes (made_entry name (kind_of_mode inode.mode) running) in
+    let listed : AddsEntries c.add_ref.new.table c.add_entries.new.table c.add_ref.new.tree c.add_entries.new.tree name entry = subst (λ (k : ℕ). AddsEntries c.add_ref.new.table c.add_entries.new.table c.add_ref.new.tree c.add_entries.new.tree name (entry_bytes (made_entry name k running))) c.entry_kind.ensures c.add_entries.ensures.edits in
+    let edits : NameEdits table new tree after.tree name (Some (bytes_under (ref_key name) items ++ ref_entry name)) (Some (bytes_under (hashed_key name) items ++ entry)) (Some entry) dir inode (dir.size + 2 * length name.bytes) (inode.nlink + 1) running = record {
       t1 = c.add_ref.new.table;
-      t2 = c.add_entries.new.table;
-      t3 = c.write_inode.new.table;
+      t2 = listed.middle;
+      t3 = c.add_entries.new.table;
+      t4 = c.write_inode.new.table;
       r1 = c.add_ref.new.tree;
-      r2 = c.add_entries.new.tree;
-      r3 = c.write_inode.new.tree;
+      r2 = listed.between;
+      r3 = c.add_entries.new.tree;
+      r4 = c.write_inode.new.tree;
       linked = c.add_ref.ensures;
-      listed = subst (λ (k : ℕ). AddsEntries c.add_ref.new.table c.add_entries.new.table c.add_ref.new.tree c.add_entries.new.tree name (entry_bytes (made_entry name k running))) c.entry_kind.ensures c.add_entries.ensures.edits;
+      hashed = listed_hashed table c.add_ref.new.table c.add_entries.new.table tree c.add_ref.new.tree c.add_entries.new.tree name (Some (bytes_under (ref_key name) items ++ ref_entry name)) entry c.add_ref.ensures listed;
+      indexed = listed.indexed;
       sized = c.write_inode.ensures.edit;
       counted = IsOther c.if-inode-ne-DIR_MODE.true c.write_inode-then-inode-ne-DIR_MODE.ensures.edit;
     } in
@@ -100,15 +107,12 @@ returns-then-inode-ne-DIR_MODE-clause-made c = λ s gives may.
       current = All-left (λ (at : ℕ). (block_at table at).state ≢ LetGo) (tree_reach table tree) (tree_data table tree) c.requires.current;
       dir_has = dir_has;
       inode_has = inode_has;
-      adds = adds;
+      edits = edits;
       dir_again = c.write_inode.ensures.spelled dir_has.spelled.mode;
       inode_again = λ other. c.write_inode-then-inode-ne-DIR_MODE.ensures.spelled inode_has.spelled.mode;
       fits = c.add_entries.ensures.fits;
     } in
-    record {
-      gives = gives_next table new tree after.tree name s dir inode running known;
-      edit = tree_as_sub table new c.args.sub.now after s 85 gives c.requires.current (whole_edit table new tree after.tree name s dir inode running known) (whole_files table new tree after.tree name s dir inode running known) refl;
-    }
+    made_so table new c.args.sub.now after name s (with_name s name) dir inode (Some (bytes_under (ref_key name) items ++ ref_entry name)) (Some (bytes_under (hashed_key name) items ++ entry)) (Some entry) (dir.size + 2 * length name.bytes) (inode.nlink + 1) (adding table new tree after.tree name s dir inode running known) c.requires.current refl
 
 pub returns-else-inode-ne-DIR_MODE-clause-made : goal.returns-else-inode-ne-DIR_MODE-clause-made
 returns-else-inode-ne-DIR_MODE-clause-made c = λ s gives may.
@@ -124,15 +128,21 @@ returns-else-inode-ne-DIR_MODE-clause-made c = λ s gives may.
     let ino_item = has_item table tree s gives name.ino may.inode may.inode_there in
     let dir_has : HasInode (tree_items table tree) name.dir dir = subst (HasInode (tree_items table tree) name.dir) (sym (c.inode_at-dir.ensures dir_item.value dir_item.has)) dir_item.has in
     let inode_has : HasInode (tree_items table tree) name.ino inode = subst (HasInode (tree_items table tree) name.ino) (sym (c.inode_at-inode.ensures ino_item.value ino_item.has)) ino_item.has in
-    let adds : AddsName table new tree after.tree name dir inode running = record {
+    let items : List Item = tree_items table tree in
+    let entry : List ℕ = entry_bytes (made_entry name (kind_of_mode inode.mode) running) in
+    let listed : AddsEntries c.add_ref.new.table c.add_entries.new.table c.add_ref.new.tree c.add_entries.new.tree name entry = subst (λ (k : ℕ). AddsEntries c.add_ref.new.table c.add_entries.new.table c.add_ref.new.tree c.add_entries.new.tree name (entry_bytes (made_entry name k running))) c.entry_kind.ensures c.add_entries.ensures.edits in
+    let edits : NameEdits table new tree after.tree name (Some (bytes_under (ref_key name) items ++ ref_entry name)) (Some (bytes_under (hashed_key name) items ++ entry)) (Some entry) dir inode (dir.size + 2 * length name.bytes) (inode.nlink + 1) running = record {
       t1 = c.add_ref.new.table;
-      t2 = c.add_entries.new.table;
-      t3 = c.write_inode.new.table;
+      t2 = listed.middle;
+      t3 = c.add_entries.new.table;
+      t4 = c.write_inode.new.table;
       r1 = c.add_ref.new.tree;
-      r2 = c.add_entries.new.tree;
-      r3 = c.write_inode.new.tree;
+      r2 = listed.between;
+      r3 = c.add_entries.new.tree;
+      r4 = c.write_inode.new.tree;
       linked = c.add_ref.ensures;
-      listed = subst (λ (k : ℕ). AddsEntries c.add_ref.new.table c.add_entries.new.table c.add_ref.new.tree c.add_entries.new.tree name (entry_bytes (made_entry name k running))) c.entry_kind.ensures c.add_entries.ensures.edits;
+      hashed = listed_hashed table c.add_ref.new.table c.add_entries.new.table tree c.add_ref.new.tree c.add_entries.new.tree name (Some (bytes_under (ref_key name) items ++ ref_entry name)) entry c.add_ref.ensures listed;
+      indexed = listed.indexed;
       sized = c.write_inode.ensures.edit;
       counted = IsDir c.if-inode-ne-DIR_MODE.false refl refl;
     } in
@@ -142,12 +152,9 @@ returns-else-inode-ne-DIR_MODE-clause-made c = λ s gives may.
       current = All-left (λ (at : ℕ). (block_at table at).state ≢ LetGo) (tree_reach table tree) (tree_data table tree) c.requires.current;
       dir_has = dir_has;
       inode_has = inode_has;
-      adds = adds;
+      edits = edits;
       dir_again = c.write_inode.ensures.spelled dir_has.spelled.mode;
       inode_again = λ other. absurd (other c.if-inode-ne-DIR_MODE.false);
       fits = c.add_entries.ensures.fits;
     } in
-    record {
-      gives = gives_next table new tree after.tree name s dir inode running known;
-      edit = tree_as_sub table new c.args.sub.now after s 85 gives c.requires.current (whole_edit table new tree after.tree name s dir inode running known) (whole_files table new tree after.tree name s dir inode running known) refl;
-    }
+    made_so table new c.args.sub.now after name s (with_name s name) dir inode (Some (bytes_under (ref_key name) items ++ ref_entry name)) (Some (bytes_under (hashed_key name) items ++ entry)) (Some entry) (dir.size + 2 * length name.bytes) (inode.nlink + 1) (adding table new tree after.tree name s dir inode running known) c.requires.current refl
