@@ -40,8 +40,7 @@ module _ {E : Type 0} (spell : E → List ℕ) (Good : E → Type 0) where
       let back : List ℕ = flat_map spell at.rights in
       let whole : bytes ≡ front ++ (spell entry ++ back) = spelled ∙ ap (flat_map spell) at.parts ∙ flat_map-append spell at.lefts (entry ∷ at.rights) in
       let again : bytes ≡ (front ++ spell entry) ++ back = whole ∙ sym (append_assoc front (spell entry) back) in
-      let size : to ≡ length (front ++ spell entry) = at.to_is ∙ ap (λ (n : ℕ). n + length (spell entry)) at.from_is ∙ sym (length-append front (spell entry)) in
-      (
+      let size : to ≡ length (front ++ spell entry) = at.to_is ∙ ap (λ (n : ℕ). n + length (spell entry)) at.from_is ∙ sym (length-append front (spell entry)) in (
         ap (λ (n : ℕ). take n bytes) at.from_is ∙ ap (take (length front)) whole ∙ take-append_seam front (spell entry ++ back),
         ap (λ (n : ℕ). drop n bytes) size ∙ ap (drop (length (front ++ spell entry))) again ∙ drop-append_seam (front ++ spell entry) back,
       )

@@ -1,6 +1,5 @@
 -- When a name may be added.
-use Rattle.std.proofs.Common.{◌≡◌, ◌≢◌, ◌≤◌, ◌<◌, ◌+◌, ◌*◌, ◌^◌, ◌&&◌, ◌||◌, ℕ, Bool, true, false, not, List, [], ◌∷◌, Contains, Option, Some, None, IsTrue, length, nat_eq, nat_le, nat_lt, refl, sym, ap, subst, ◌∙◌, arith}
-use Rattle.std.specs.List.{sum_by}
+use Rattle.std.proofs.Common.{◌≡◌, ◌≢◌, ◌≤◌, ◌<◌, ◌+◌, ◌^◌, ◌&&◌, Bool, true, false, not, List, [], ◌∷◌, Contains, Option, Some, None, nat_eq, nat_lt, refl, sym, ap, ◌∙◌, arith}
 use Rattle.std.specs.FinMap.{get}
 use Rattle.std.proofs.lemmas.Bool.{and_from, eq-eqb, leb-true, ltb-false, not_from_false, or_parts, true≢false}
 use Rattle.blk_base.specs.Crc.{extref_hash_of, name_hash_of}
@@ -8,11 +7,10 @@ use Rattle.blk_base.specs.Name.{IsName}
 use Rattle.flat_model.specs.Coherent.{most_links}
 use Rattle.flat_model.specs.Lengths.{dir_item_length, entry_length, extref_item_length, extref_length, most_item_bytes, ref_item_length, ref_length}
 use Rattle.flat_model.specs.Names.{FlatName, add_name, is_hashed_in, is_name_set, links_of}
-use Rattle.flat_model.specs.Operations.{add_names, has_room_near, is_crowded}
-use Rattle.flat_model.specs.Records.{DirRecord, InodeRecord, FileInode, DirInode, LinkInode, is_dir_record}
+use Rattle.flat_model.specs.Operations.{has_room_near, is_crowded}
+use Rattle.flat_model.specs.Records.{DirRecord, InodeRecord, FileInode, DirInode, LinkInode}
 use Rattle.flat_model.specs.Volume.{Subvolume, is_dir_at, is_dir_there}
-use Rattle.flat_model.proofs.Ways.{dir_record}
-use Rattle.name_ops.specs.Names.{MayAddName, names_size}
+use Rattle.name_items.specs.Names.{MayAddName, names_size}
 use Rattle.name_ops.proofs.Totals.{total_made, total_one}
 
 -- a directory's record

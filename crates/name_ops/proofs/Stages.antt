@@ -1,5 +1,5 @@
 -- Edits of names, one behind the other.
-use Rattle.std.proofs.Common.{◌≡◌, ◌<◌, ◌≤◌, ◌+◌, ◌*◌, ◌-◌, ℕ, suc, List, [], ◌∷◌, ◌++◌, length, get_or, take, drop, map, refl, sym, ap, subst, ◌∙◌, arith, add-one, drop-cons}
+use Rattle.std.proofs.Common.{◌≡◌, ◌<◌, ◌≤◌, ◌+◌, ◌*◌, ℕ, suc, List, [], ◌∷◌, ◌++◌, length, get_or, take, drop, refl, sym, ap, subst, ◌∙◌, arith, add-one, drop-cons}
 use Rattle.std.specs.Prelude.{fold}
 use Rattle.std.proofs.lemmas.List.{take_all, take_more}
 use Rattle.block_table.specs.declared.tree.SubState.{SubState}
@@ -11,9 +11,9 @@ use Rattle.table_volume.specs.Edited.{Makes}
 use Rattle.table_volume.specs.Gives.{GivesSubvolume, sub_reach}
 use Rattle.table_volume.proofs.SubEdits.{sub_joined, sub_more, sub_nothing}
 use Rattle.name_ops.specs.Changes.{MayEach, names_told, with_names}
-use Rattle.name_ops.specs.Names.{name_of}
+use Rattle.name_items.specs.Names.{name_of}
 use Rattle.name_ops.specs.Operated.{HasRoom}
-use Rattle.name_ops.specs.declared.stub.NameEntry.{NameEntry}
+use Rattle.name_items.specs.declared.entry.NameEntry.{NameEntry}
 
 -- one edit behind another
 pub makes_joined : (old mid new : Table) (a b c : SubState) (n m : ℕ) (one two : Subvolume) → Makes old mid a b n one → Makes mid new b c m two → Makes old new a c (n + m) two
@@ -88,7 +88,7 @@ module _ (may : Subvolume → FlatName → Type 0) (step : FlatName → List Fla
         record {
           makes = subst (λ (names : List FlatName). Makes old new before after (85 * (count + 1)) (with_names sub names)) (sym names) counted;
           rest = subst (λ (names : List FlatName). MayEach may step (with_names sub names) (names_told (drop (count + 1) entries))) (sym names)
-          (rw add-one ahead.1);
+              (rw add-one ahead.1);
         }
 
   -- all are done

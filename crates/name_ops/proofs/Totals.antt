@@ -1,11 +1,10 @@
 -- How many bytes names have in an item, behind names that go and names that come.
-use Rattle.std.proofs.Common.{◌≡◌, ◌+◌, ℕ, Bool, true, false, cond, List, [], ◌∷◌, Contains, filter, refl, sym, ap, subst, ◌∙◌, arith, zero-add}
-use Rattle.std.specs.Prelude.{fold}
+use Rattle.std.proofs.Common.{◌≡◌, ◌+◌, ℕ, Bool, true, false, cond, List, [], ◌∷◌, Contains, filter, refl, ap, ◌∙◌, arith, zero-add}
 use Rattle.std.specs.List.{sum_by}
 use Rattle.std.proofs.lemmas.List.Sums.{sum_by-cons}
 use Rattle.flat_model.specs.Names.{FlatName, add_name, is_name_set, remove_name}
 use Rattle.flat_model.specs.Operations.{add_names}
-use Rattle.flat_model.proofs.NameSets.{add_name_keeps, filter_add_other, filter_remove_name, filter_remove_other, is_name_set_add, is_name_set_filter, is_name_set_remove, sum_by_remove_name}
+use Rattle.flat_model.proofs.NameSets.{filter_add_other, filter_remove_name, filter_remove_other, is_name_set_add, is_name_set_filter, is_name_set_remove, sum_by_remove_name}
 use Rattle.flat_model.proofs.Fresh.{sum_filter_add}
 use Rattle.volume_image.proofs.Members.{filter_in}
 use Rattle.name_ops.specs.Changes.{AreNew, AreThere, remove_names}
@@ -15,10 +14,10 @@ module _ (f : FlatName → ℕ) (p : FlatName → Bool) where
   abbrev pub total : List FlatName → ℕ
   total names = sum_by f (filter p names)
 
-  abbrev share : FlatName → ℕ
+  abbrev pub share : FlatName → ℕ
   share name = cond (p name) (f name) 0
 
-  total_cons : (name : FlatName) (names : List FlatName) → total (name ∷ names) ≡ share name + total names
+  pub total_cons : (name : FlatName) (names : List FlatName) → total (name ∷ names) ≡ share name + total names
   total_cons name names =
       elim (p name) as (λ b. sum_by f (cond b (name ∷ filter p names) (filter p names)) ≡ cond b (f name) 0 + sum_by f (filter p names)) [
         | true ↦ sum_by-cons f name (filter p names)

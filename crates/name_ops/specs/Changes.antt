@@ -1,9 +1,9 @@
 -- Names that go from a subvolume, and names that come, one after the other.
-use Rattle.std.specs.Prelude.{◌≡◌, ℕ, Bool, cond, List, [], ◌∷◌, map, fold, Contains, IsTrue, ⊤}
-use Rattle.flat_model.specs.Names.{FlatName, add_name, is_name_set, remove_name}
+use Rattle.std.specs.Prelude.{List, [], ◌∷◌, map, fold, Contains, ⊤}
+use Rattle.flat_model.specs.Names.{FlatName, add_name, remove_name}
 use Rattle.flat_model.specs.Volume.{Subvolume}
-use Rattle.name_ops.specs.Names.{MayAddName, MayRemoveName, name_of}
-use Rattle.name_ops.specs.declared.stub.NameEntry.{NameEntry}
+use Rattle.name_items.specs.Names.{MayAddName, MayRemoveName, name_of}
+use Rattle.name_items.specs.declared.entry.NameEntry.{NameEntry}
 
 -- the names that entries tell
 abbrev pub names_told : List NameEntry → List FlatName

@@ -1,5 +1,5 @@
 -- What an operation on the tree of a subvolume comes to.
-use Rattle.std.specs.Prelude.{◌≡◌, ◌≤◌, ℕ, Bool, true}
+use Rattle.std.specs.Prelude.{◌≡◌, ◌≤◌, ℕ, true}
 use Rattle.block_table.specs.declared.tree.SubState.{SubState}
 use Rattle.block_table.specs.Table.{Table, free_blocks}
 use Rattle.flat_model.specs.declared.answer.Answer.{Answer}

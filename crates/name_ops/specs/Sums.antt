@@ -2,7 +2,7 @@
 use Rattle.std.specs.Prelude.{◌≤◌, ℕ, ◌&&◌, not, nat_eq, List, length, filter, All}
 use Rattle.blk_base.specs.Crc.{extref_hash_of}
 use Rattle.flat_model.specs.Names.{FlatName}
-use Rattle.name_ops.specs.declared.stub.NameEntry.{NameEntry}
+use Rattle.name_items.specs.declared.entry.NameEntry.{NameEntry}
 
 -- the near names of an inode in a directory ("INODE_REF")
 abbrev pub near_of : List FlatName → ℕ → ℕ → List FlatName

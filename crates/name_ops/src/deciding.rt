@@ -6,15 +6,15 @@ ghost use Rattle.flat_model.specs.Operations.{add_names, do_collide, has_room_ne
 ghost use Rattle.flat_model.specs.Volume.{Subvolume};
 ghost use Rattle.tree_range.specs.Shape.{IsTree};
 ghost use Rattle.name_walk.specs.Given.{GivesCoherent};
-ghost use Rattle.name_ops.specs.Names.{name_of};
+ghost use Rattle.name_items.specs.Names.{name_of};
 ghost use Rattle.name_ops.specs.Changes.{IsChange, names_told, remove_names};
 ghost use Rattle.name_ops.specs.Sums.{IsFew};
 
-use crate::stub::NameEntry;
 use crate::sums::{far_sum, hashed_sum, near_sum};
 use blk_base::format::MOST_ITEM_BYTES;
 use blk_base::{extref_hash, name_hash};
 use block_table::{BlockTable, Tree};
+use name_items::NameEntry;
 use name_walk::{dir_item_len, extref_item_len, ref_item_len};
 
 /// The most bytes of an INODE_REF to which a name is added.

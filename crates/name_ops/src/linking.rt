@@ -8,7 +8,7 @@ ghost use Rattle.table_volume.specs.Running.{GivesRun};
 ghost use Rattle.name_walk.specs.Ends.{end_view};
 ghost use Rattle.name_walk.specs.Given.{GivesCoherent};
 ghost use Rattle.name_ops.specs.Changes.{IsChange, names_told, remove_names};
-ghost use Rattle.name_ops.specs.Names.{name_of};
+ghost use Rattle.name_items.specs.Names.{name_of};
 ghost use Rattle.name_ops.specs.Operated.{HasRoom, IsOperated};
 ghost use Rattle.name_ops.specs.Sums.{IsFew};
 ghost use Rattle.name_ops.specs.Tests.{link_tests};
@@ -17,10 +17,10 @@ ghost use Rattle.flat_model.specs.Step.{IsPath};
 use crate::deciding::{do_collide, has_room_near};
 use crate::editing::add_names;
 use crate::refusing::link_refusal;
-use crate::stub::NameEntry;
 use blk_base::Ino;
 use block_table::{BlockTable, SubState, Tree};
 use flat_model::{Answer, Path};
+use name_items::NameEntry;
 use name_walk::{End, walk};
 
 /// A new name in a slot, near where it may be once other names are gone.

@@ -5,7 +5,7 @@ ghost use Rattle.flat_model.specs.Volume.{RunSub, is_dir_there, is_other_there};
 ghost use Rattle.flat_model.specs.Walk.{is_absent, is_blocked, is_dirless, record_at};
 ghost use Rattle.table_volume.specs.Running.{GivesRun};
 ghost use Rattle.name_walk.specs.Ends.{end_view};
-ghost use Rattle.name_ops.specs.Tests.{link_tests};
+ghost use Rattle.name_ops.specs.Tests.{link_tests, make_tests};
 
 use block_table::{BlockTable, SubState};
 use flat_model::{Answer, Kind};
@@ -90,6 +90,34 @@ pub(crate) fn link_refusal(
         return Some(Answer::Links);
     }
     if indexes_are_spent(sub) {
+        return Some(Answer::TooLarge);
+    }
+    None
+}
+
+/// Whether the subvolume has had an inode number or an index of 2^62 or above.
+fn are_spent(sub: &SubState) -> bool
+    ensures { (run : RunSub) → sub.now.next_ino ≡ run.numbers.last_ino + 1 → sub.now.next_index ≡ run.numbers.last_index + 1
+        → result ≡ (inos_are_spent run.numbers || indexes_are_spent run.numbers) }
+{
+    inos_are_spent(sub) || indexes_are_spent(sub)
+}
+
+/// The first refusal of a create, mkdir or symlink but for one by collision.
+pub(crate) fn make_refusal(sub: &SubState, end: &End<'_>) -> Option<Answer>
+    ensures { (run : RunSub) → sub.now.next_ino ≡ run.numbers.last_ino + 1 → sub.now.next_index ≡ run.numbers.last_index + 1
+        → result ≡ first_answer (make_tests run (end_view end.now)) }
+{
+    if end.is_dirless() {
+        return Some(Answer::NoEnt);
+    }
+    if end.is_blocked() {
+        return Some(Answer::NotDir);
+    }
+    if end.is_taken() {
+        return Some(Answer::Exists);
+    }
+    if are_spent(sub) {
         return Some(Answer::TooLarge);
     }
     None

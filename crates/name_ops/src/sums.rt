@@ -7,8 +7,8 @@ ghost use Rattle.flat_model.specs.Names.{hashed_of};
 ghost use Rattle.name_ops.specs.Changes.{names_told};
 ghost use Rattle.name_ops.specs.Sums.{IsFew, far_of, near_of};
 
-use crate::stub::NameEntry;
 use blk_base::{extref_hash, name_hash};
+use name_items::NameEntry;
 
 /// How many bytes names have in the item of a directory and a hash ("DIR_ITEM").
 pub(crate) fn hashed_sum(entries: &[NameEntry<'_>], dir: u64, hash: u32) -> usize

@@ -1,4 +1,4 @@
-use Rattle.std.proofs.Common.{◌≡◌, ◌+◌, arith}
+use Rattle.std.proofs.Common.{arith}
 use Rattle.flat_model.specs.Lengths.{dir_item_length, entry_length}
 use Rattle.flat_model.specs.Names.{is_hashed_in}
 use Rattle.name_ops.specs.Changes.{names_told}

@@ -1,9 +1,9 @@
-use Rattle.std.proofs.Common.{◌≡◌, ◌||◌, suc, Bool, List, drop, refl, sym, ap, ◌∙◌, add-one, drop-cons}
+use Rattle.std.proofs.Common.{◌||◌, suc, Bool, List, drop, sym, ap, ◌∙◌, add-one, drop-cons}
 use Rattle.std.proofs.lemmas.List.{drop_all}
 use Rattle.std.specs.List.{list_any}
 use Rattle.flat_model.specs.Operations.{add_names, is_crowded}
 use Rattle.name_ops.specs.Changes.{names_told, remove_names}
-use Rattle.name_ops.specs.declared.stub.NameEntry.{NameEntry}
+use Rattle.name_items.specs.declared.entry.NameEntry.{NameEntry}
 use Rattle.name_ops.proofs.deciding.do_collide.Goals as goal
 
 pub returns-then-is_crowded : goal.returns-then-is_crowded

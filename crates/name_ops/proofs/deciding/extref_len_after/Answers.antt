@@ -1,4 +1,4 @@
-use Rattle.std.proofs.Common.{◌≡◌, ◌+◌, ◌&&◌, Bool, not, nat_eq, arith}
+use Rattle.std.proofs.Common.{◌&&◌, Bool, not, nat_eq, arith}
 use Rattle.blk_base.specs.Crc.{extref_hash_of}
 use Rattle.flat_model.specs.Lengths.{extref_item_length, extref_length}
 use Rattle.flat_model.specs.Names.{FlatName}

@@ -2,7 +2,7 @@ use Rattle.std.proofs.Common.{◌≡◌, ◌+◌, ◌-◌, ◌&&◌, ℕ, Bool, 
 use Rattle.flat_model.specs.Lengths.{ref_item_length, ref_length}
 use Rattle.flat_model.specs.Names.{FlatName}
 use Rattle.name_ops.specs.Changes.{names_told, remove_names}
-use Rattle.name_ops.specs.Names.{name_of}
+use Rattle.name_items.specs.Names.{name_of}
 use Rattle.name_ops.proofs.Totals.{total_gone}
 use Rattle.name_ops.proofs.deciding.has_room_near.Goals as goal
 

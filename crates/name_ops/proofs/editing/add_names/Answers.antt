@@ -1,9 +1,6 @@
-use Rattle.std.proofs.Common.{List, refl, sym, ap, ◌∙◌, subst}
-use Rattle.std.proofs.lemmas.List.{take_all}
+use Rattle.std.proofs.Common.{refl, ◌∙◌}
 use Rattle.flat_model.specs.Names.{add_name}
-use Rattle.flat_model.specs.Volume.{Subvolume}
-use Rattle.name_ops.specs.Names.{MayAddName}
-use Rattle.name_ops.specs.declared.stub.NameEntry.{NameEntry}
+use Rattle.name_items.specs.Names.{MayAddName}
 use Rattle.name_ops.proofs.Stages.{made_all, stage_first, stage_may, stage_next, stage_room}
 use Rattle.name_ops.proofs.editing.add_names.Goals as goal
 
@@ -35,8 +32,8 @@ add_name-requires-clause-free c =
 pub loop-name-preserved : goal.loop-name-preserved
 loop-name-preserved c = record {
   stage = λ s gives each.
-  stage_next MayAddName add_name c.args.table.now c.loop-name.table c.args.sub.now c.loop-name.sub s c.args.made.now c.loop-name.name-index _ c.loop-name-test.true (c.loop-name.invariant.stage s gives each)
-  c.add_name.new.table c.add_name.new.sub c.add_name.ensures.made;
+      stage_next MayAddName add_name c.args.table.now c.loop-name.table c.args.sub.now c.loop-name.sub s c.args.made.now c.loop-name.name-index _ c.loop-name-test.true (c.loop-name.invariant.stage s gives each)
+      c.add_name.new.table c.add_name.new.sub c.add_name.ensures.made;
   next_ino = c.add_name.ensures.next_ino ∙ c.loop-name.invariant.next_ino;
   next_index = c.add_name.ensures.next_index ∙ c.loop-name.invariant.next_index;
 }

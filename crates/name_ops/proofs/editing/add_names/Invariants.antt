@@ -4,7 +4,7 @@ use Rattle.flat_model.specs.Names.{add_name}
 use Rattle.flat_model.specs.Volume.{Subvolume}
 use Rattle.table_volume.specs.Gives.{GivesSubvolume}
 use Rattle.name_ops.specs.Changes.{MayCome, names_told}
-use Rattle.name_ops.specs.Names.{MayAddName}
+use Rattle.name_items.specs.Names.{MayAddName}
 use Rattle.name_ops.proofs.Stages.{Stage}
 use Rattle.name_ops.proofs.editing.add_names.Given as goal
 
