@@ -7,7 +7,7 @@ use Rattle.flat_model.specs.Operations.{Outcome, first_answer, unchanged, unless
 use Rattle.flat_model.specs.Volume.{RunSub}
 use Rattle.table_volume.specs.Running.{GivesRun}
 use Rattle.table_volume.proofs.SubEdits.{sub_more, sub_nothing}
-use Rattle.file_ops.specs.Operated.{IsOperated}
+use Rattle.table_volume.specs.Operated.{IsOperated}
 
 -- the first row holds, and the first row doesn't
 pub here : (b : Bool) (answer : Answer) (rows : List (Bool × Answer)) → b ≡ true → first_answer ((b, answer) ∷ rows) ≡ Some answer

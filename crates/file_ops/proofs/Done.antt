@@ -13,7 +13,7 @@ use Rattle.flat_model.specs.Walk.{WalkEnd}
 use Rattle.flat_model.proofs.Sound.{KeepsSound}
 use Rattle.table_volume.specs.Edited.{Makes}
 use Rattle.table_volume.specs.Running.{GivesRun}
-use Rattle.file_ops.specs.Operated.{IsOperated}
+use Rattle.table_volume.specs.Operated.{IsOperated}
 use Rattle.file_ops.specs.There.{IsInodeAt}
 use Rattle.file_ops.proofs.Placed.{record_is}
 

@@ -6,7 +6,7 @@ ghost use Rattle.tree_range.specs.Shape.{IsTree};
 ghost use Rattle.tree_frame.specs.Frame.{AreCurrent};
 ghost use Rattle.table_volume.specs.Gives.{sub_reach};
 ghost use Rattle.table_volume.specs.Running.{GivesRun};
-ghost use Rattle.file_ops.specs.Operated.{HasRoom, IsOperated};
+ghost use Rattle.table_volume.specs.Operated.{HasRoom, IsOperated};
 
 use crate::place::{There, find};
 use attribute_items::is_crowded;

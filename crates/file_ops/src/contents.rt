@@ -4,7 +4,7 @@ ghost use Rattle.flat_model.specs.Operations.{read};
 ghost use Rattle.flat_model.specs.Volume.{RunSub};
 ghost use Rattle.tree_range.specs.Shape.{IsTree};
 ghost use Rattle.table_volume.specs.Running.{GivesRun};
-ghost use Rattle.file_ops.specs.Operated.{IsOperated};
+ghost use Rattle.table_volume.specs.Operated.{IsOperated};
 
 use crate::place::{There, find};
 use blk_base::OutOfMemory;

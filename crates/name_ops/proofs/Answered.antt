@@ -12,7 +12,7 @@ use Rattle.flat_model.specs.Walk.{walk}
 use Rattle.name_walk.specs.declared.found.End.{End}
 use Rattle.name_walk.specs.Ends.{end_view}
 use Rattle.name_walk.specs.Given.{GivesCoherent}
-use Rattle.name_ops.specs.Operated.{IsOperated}
+use Rattle.table_volume.specs.Operated.{IsOperated}
 
 -- nothing changes
 pub stays : (table : Table) (state : SubState) (run : RunSub) (answer : Answer) (most : ℕ) → GivesRun table state run → IsOperated table table state state run (unchanged run answer) answer most

@@ -27,7 +27,7 @@ use Rattle.table_volume.specs.Running.{GivesRun}
 use Rattle.table_volume.proofs.SubEdits.{sub_more}
 use Rattle.flat_model.proofs.Steps.{outcome_sound}
 use Rattle.name_ops.specs.Changes.{with_names}
-use Rattle.name_ops.specs.Operated.{IsOperated}
+use Rattle.table_volume.specs.Operated.{IsOperated}
 use Rattle.name_ops.specs.Tests.{link_tests}
 use Rattle.name_ops.proofs.Answered.{refused, renumbered, rows_behind}
 use Rattle.name_ops.proofs.Adding.{Comes, absent_of, may_add}

@@ -30,7 +30,7 @@ use Rattle.inode_items.specs.declared.add.NewInode.{NewInode}
 use Rattle.inode_items.specs.declared.add.NewInode.TheVariants as made
 use Rattle.name_items.specs.Names.{MayAddName}
 use Rattle.name_ops.specs.Changes.{with_names}
-use Rattle.name_ops.specs.Operated.{IsOperated}
+use Rattle.table_volume.specs.Operated.{IsOperated}
 use Rattle.name_ops.specs.Tests.{make_tests}
 use Rattle.name_ops.proofs.Adding.{Comes, absent_of, may_add}
 use Rattle.name_ops.proofs.Answered.{refused, renumbered, rows_behind}

@@ -12,7 +12,7 @@ use Rattle.table_volume.specs.Gives.{GivesSubvolume, sub_reach}
 use Rattle.table_volume.proofs.SubEdits.{sub_joined, sub_more, sub_nothing}
 use Rattle.name_ops.specs.Changes.{MayEach, names_told, with_names}
 use Rattle.name_items.specs.Names.{name_of}
-use Rattle.name_ops.specs.Operated.{HasRoom}
+use Rattle.table_volume.specs.Operated.{HasRoom}
 use Rattle.name_items.specs.declared.entry.NameEntry.{NameEntry}
 
 -- one edit behind another

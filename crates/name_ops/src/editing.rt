@@ -6,7 +6,7 @@ ghost use Rattle.tree_frame.specs.Frame.{AreCurrent};
 ghost use Rattle.table_volume.specs.Edited.{Makes};
 ghost use Rattle.table_volume.specs.Gives.{GivesSubvolume, sub_reach};
 ghost use Rattle.name_ops.specs.Changes.{MayCome, names_told, with_names};
-ghost use Rattle.name_ops.specs.Operated.{HasRoom};
+ghost use Rattle.table_volume.specs.Operated.{HasRoom};
 
 use block_table::{BlockTable, SubState};
 use name_items::{NameEntry, add_name};

@@ -2,7 +2,7 @@ ghost use Rattle.std.specs.Prelude.{◌≡◌};
 ghost use Rattle.flat_model.specs.Operations.{lookup};
 ghost use Rattle.flat_model.specs.Volume.{RunSub};
 ghost use Rattle.table_volume.specs.Running.{GivesRun};
-ghost use Rattle.name_ops.specs.Operated.{IsOperated};
+ghost use Rattle.table_volume.specs.Operated.{IsOperated};
 
 use block_table::{BlockTable, SubState};
 use flat_model::{Answer, Path};

@@ -9,7 +9,7 @@ ghost use Rattle.name_walk.specs.Ends.{end_view};
 ghost use Rattle.name_walk.specs.Given.{GivesCoherent};
 ghost use Rattle.name_ops.specs.Changes.{IsChange, names_told, remove_names};
 ghost use Rattle.name_items.specs.Names.{name_of};
-ghost use Rattle.name_ops.specs.Operated.{HasRoom, IsOperated};
+ghost use Rattle.table_volume.specs.Operated.{HasRoom, IsOperated};
 ghost use Rattle.name_ops.specs.Sums.{IsFew};
 ghost use Rattle.name_ops.specs.Tests.{link_tests};
 ghost use Rattle.flat_model.specs.Step.{IsPath};

@@ -7,7 +7,7 @@ ghost use Rattle.flat_model.specs.Volume.{RunSub};
 ghost use Rattle.flat_model.specs.Walk.{AtSlot, walk};
 ghost use Rattle.table_volume.specs.Running.{GivesRun};
 ghost use Rattle.inode_items.specs.Inodes.{new_record};
-ghost use Rattle.name_ops.specs.Operated.{HasRoom, IsOperated};
+ghost use Rattle.table_volume.specs.Operated.{HasRoom, IsOperated};
 ghost use Rattle.name_ops.specs.Tests.{make_tests};
 
 use crate::deciding::do_collide;

@@ -8,7 +8,7 @@ use Rattle.flat_model.specs.Operations.{Outcome, attribute_rows, attributes_ther
 use Rattle.flat_model.specs.Records.{attributes_of}
 use Rattle.flat_model.specs.Volume.{RunSub}
 use Rattle.flat_model.specs.Walk.{WalkEnd, record_at, walk}
-use Rattle.file_ops.specs.Operated.{IsOperated}
+use Rattle.table_volume.specs.Operated.{IsOperated}
 use Rattle.file_ops.proofs.Answered.{finished, refused, stays}
 use Rattle.file_ops.proofs.Rows.{attribute_blocked, attribute_missing, attribute_none, attribute_some, value_there}
 use Rattle.file_ops.proofs.attributes.get_attr.Goals as goal

@@ -8,7 +8,7 @@ use Rattle.std.specs.FinMap.{get}
 use Rattle.flat_model.specs.Records.{FileInode, InodeRecord, kind_of}
 use Rattle.flat_model.specs.Volume.{RunSub}
 use Rattle.flat_model.specs.Walk.{WalkEnd, record_at, walk}
-use Rattle.file_ops.specs.Operated.{IsOperated}
+use Rattle.table_volume.specs.Operated.{IsOperated}
 use Rattle.file_ops.proofs.Answered.{finished, refused, stays}
 use Rattle.file_ops.proofs.FileRows.{dir_is, file_blocked, file_dir, file_is, file_link, file_missing, file_more, kind_told, link_is, none_told}
 use Rattle.file_ops.proofs.Placed.{record_is}

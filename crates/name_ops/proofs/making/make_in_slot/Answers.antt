@@ -10,7 +10,7 @@ use Rattle.inode_items.specs.Inodes.{MayAddInode, new_record}
 use Rattle.name_items.specs.Names.{name_of}
 use Rattle.name_items.specs.declared.entry.NameEntry.{NameEntry}
 use Rattle.name_ops.specs.Changes.{with_names}
-use Rattle.name_ops.specs.Operated.{IsOperated}
+use Rattle.table_volume.specs.Operated.{IsOperated}
 use Rattle.name_ops.proofs.Made.{entry_made, made_may, made_new, make_bytes, make_collides, make_done_so, make_may_inode, make_not_root}
 use Rattle.name_ops.proofs.Stages.{room_left, room_less}
 use Rattle.name_ops.proofs.making.make_in_slot.Goals as goal
