@@ -1,12 +1,12 @@
 -- What an inode's other attributes leave of the items of its subvolume.
-use Rattle.std.proofs.Common.{◌≡◌, ◌≢◌, ◌⊎◌, ◌&&◌, ◌||◌, ◌++◌, ℕ, Bool, true, false, List, [], ◌∷◌, Option, Some, None, IsPermutation, refl, sym, ap, subst, ◌∙◌, arith, inl, inr}
-use Rattle.std.specs.Prelude.{◌==◌, All, Contains, IsSome, nat_eq}
-use Rattle.std.specs.FinMap.{get, insert}
+use Rattle.std.proofs.Common.{◌≡◌, ◌≢◌, ◌⊎◌, ◌||◌, ℕ, Bool, true, false, List, [], ◌∷◌, Option, Some, None, refl, sym, ap, subst, ◌∙◌, arith, inl, inr}
+use Rattle.std.specs.Prelude.{◌==◌, Contains, IsSome, nat_eq}
+use Rattle.std.specs.FinMap.{get}
 use Rattle.std.proofs.lemmas.Bool.{and_parts, cases_eq, eq-eqb, eqb-true, true≢false}
 use Rattle.blk_base.specs.declared.key.Key.{Key}
 use Rattle.blk_base.specs.Crc.{name_hash_of}
 use Rattle.blk_base.specs.Entries.{EntryValue}
-use Rattle.blk_base.specs.Keys.{dir_index, dir_item, extent_data, inode_extref, inode_item, inode_ref, xattr_item}
+use Rattle.blk_base.specs.Keys.{dir_index, dir_item, extent_data, inode_item, xattr_item}
 use Rattle.blk_base.specs.Leaf.{Item}
 use Rattle.blk_base.specs.Trees.{ItemsRise}
 use Rattle.block_table.specs.declared.tree.SubState.{SubState}

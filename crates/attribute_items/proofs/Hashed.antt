@@ -1,10 +1,9 @@
 -- The entries of an item are the attributes whose names have its hash.
-use Rattle.std.proofs.Common.{◌≡◌, ◌≢◌, ◌+◌, ◌++◌, ◌⊎◌, ℕ, ◌&&◌, Bool, true, false, not, cond, T, List, [], ◌∷◌, Contains, Option, Some, None, Ordering, Less, is_eq, is_lt, filter, map, sum_by, nat_eq, IsPermutation, refl, sym, ap, subst, ◌∙◌, arith, inl, inr}
+use Rattle.std.proofs.Common.{◌≡◌, ◌≢◌, ◌+◌, ◌++◌, ◌⊎◌, ℕ, ◌&&◌, Bool, true, false, not, cond, T, List, [], ◌∷◌, Contains, Option, Some, None, Ordering, Less, is_eq, is_lt, filter, map, sum_by, nat_eq, IsPermutation, refl, sym, ap, subst, ◌∙◌, inl, inr}
 use Rattle.std.specs.Ordering.{eq_by_cmp, nat_cmp}
-use Rattle.std.specs.Cmp.{IsTotalOrder, tied_itself}
 use Rattle.std.specs.Cmp.Lexicographic.{slice_cmp, nat_list_cmp_total}
 use Rattle.std.specs.Str.{bytes_eq}
-use Rattle.std.specs.FinMap.{FinMap, IsAntisymmetric, entries, entries_sorted, get, get-insert, get-remove, insert, is_sorted, remove, nat_cmp-IsAntisymmetric, slice_cmp-IsAntisymmetric}
+use Rattle.std.specs.FinMap.{IsAntisymmetric, entries, entries_sorted, get, get-insert, get-remove, insert, is_sorted, remove, nat_cmp-IsAntisymmetric, slice_cmp-IsAntisymmetric}
 use Rattle.std.specs.FinMap.Entries.{below_all}
 use Rattle.std.proofs.lemmas.Bool.{cases_Bool, eq-eqb, eqb-true, true≢false}
 use Rattle.std.proofs.lemmas.Map.Text.{is_eq-slice_cmp}

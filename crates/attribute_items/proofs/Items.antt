@@ -1,6 +1,6 @@
 -- Items of a subvolume's attributes, and lists of items with one put or taken out that leads to no data.
-use Rattle.std.proofs.Common.{◌≡◌, ◌≢◌, ℕ, Bool, true, false, List, [], ◌∷◌, ◌++◌, Option, Some, None, Ok, Result, map, refl, sym, ap, subst, ◌∙◌, flat_map, inl, inr}
-use Rattle.std.specs.Prelude.{All, Contains, IsSome, filter, if◌then◌else◌}
+use Rattle.std.proofs.Common.{◌≡◌, ◌≢◌, ℕ, Bool, false, List, [], ◌∷◌, ◌++◌, Option, Some, None, Ok, Result, map, refl, sym, ap, subst, ◌∙◌}
+use Rattle.std.specs.Prelude.{filter, if◌then◌else◌}
 use Rattle.std.specs.List.{AllByRecursion}
 use Rattle.std.specs.FinMap.{get}
 use Rattle.std.proofs.lemmas.List.Elements.{All-cons, All-weaker}
@@ -21,7 +21,6 @@ use Rattle.std.proofs.lemmas.Bool.{false_from_ne_true}
 use Rattle.leaf_view.specs.KeyOrder.{KeyBelow_irrefl}
 use Rattle.leaf_view.specs.KeyOrder.{KeyBelow_swap, KeyBelow_trans, same_key}
 use Rattle.tree_range.specs.Between.{AreAbove, data_under}
-use Rattle.tree_range.proofs.Under.{not_below}
 use Rattle.tree_range.proofs.Found.{contains_under}
 use Rattle.tree_range.proofs.Rise.{rise_head, rise_tail}
 use Rattle.tree_frame.specs.Frame.{with_item, without_item}

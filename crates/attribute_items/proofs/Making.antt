@@ -1,19 +1,16 @@
 -- An attribute that is set or taken away, as an edit of the subvolume.
-use Rattle.std.proofs.Common.{◌≡◌, ◌≢◌, ◌⊎◌, ◌≤◌, ◌<◌, ◌+◌, ◌^◌, ◌-◌, ◌++◌, ℕ, Bool, List, [], ◌∷◌, Option, Some, None, length, min, flat_map, nat_lt, sum_by, refl, sym, ap, subst, ◌∙◌, arith, inl, inr}
-use Rattle.std.specs.Prelude.{All, Contains, IsSome, filter, not}
+use Rattle.std.proofs.Common.{◌≡◌, ◌≢◌, ◌⊎◌, ◌<◌, ◌+◌, ◌^◌, ◌-◌, ◌++◌, ℕ, List, [], ◌∷◌, Option, Some, None, length, min, flat_map, nat_lt, sum_by, refl, sym, ap, subst, ◌∙◌, arith, inl, inr}
+use Rattle.std.specs.Prelude.{All, Contains, IsSome, not}
 use Rattle.std.specs.List.{AllByRecursion}
 use Rattle.std.specs.Str.{bytes_eq}
 use Rattle.std.specs.FinMap.{get, insert, remove}
 use Rattle.std.proofs.lemmas.Bool.Decides.{nat_tests}
-use Rattle.std.proofs.lemmas.Bool.{true≢false}
 use Rattle.std.proofs.lemmas.Grind.{flat_map-append}
 use Rattle.std.proofs.lemmas.List.{append-nil}
 use Rattle.std.proofs.lemmas.List.Sums.{sum_by-append, sum_by-cons}
 use Rattle.std.proofs.lemmas.List.Elements.{All-contains_itself, All-weaker, Contains-append_cases}
-use Rattle.blk_base.specs.declared.key.Key.{Key}
 use Rattle.blk_base.specs.Crc.{name_hash_of}
-use Rattle.blk_base.specs.Entries.{EntryValue, IsEntries, attr_entry, entry_bytes}
-use Rattle.blk_base.specs.ItemFaults.{IsEntriesKind}
+use Rattle.blk_base.specs.Entries.{EntryValue, IsEntries, entry_bytes}
 use Rattle.blk_base.specs.Keys.{xattr_item}
 use Rattle.blk_base.specs.Leaf.{Item}
 use Rattle.blk_base.specs.Name.{IsName}
@@ -22,7 +19,7 @@ use Rattle.block_table.specs.Table.{Table}
 use Rattle.flat_model.specs.Lengths.{xattr_item_length}
 use Rattle.flat_model.specs.Records.{Attributes, InodeRecord, attributes_of, with_attributes}
 use Rattle.flat_model.specs.Volume.{Subvolume}
-use Rattle.flat_model.proofs.Maps.{get_insert_same, some_same, sum_filter_le}
+use Rattle.flat_model.proofs.Maps.{get_insert_same, some_same}
 use Rattle.tree_range.specs.Between.{data_under}
 use Rattle.tree_range.specs.Shape.{tree_items}
 use Rattle.tree_range.proofs.Found.{contains_under}
@@ -37,7 +34,7 @@ use Rattle.table_volume.specs.Keyed.{DoesAsk, AsksInode, AsksRefs, AsksExtRefs, 
 use Rattle.item_edit.specs.ItemEdit.{BearsUnder, IsItemEdit}
 use Rattle.attribute_items.specs.Found.{IsAttribute, entries_there, entry_size, item_of, others, value_of, written_entry}
 use Rattle.attribute_items.proofs.Changed.{attributes_now, changed, makes}
-use Rattle.attribute_items.proofs.Hashed.{AreAttributes, are_asked, asked, asked_in, found_size, gone_attributes, gone_other, set_attributes, set_other}
+use Rattle.attribute_items.proofs.Hashed.{AreAttributes, asked, asked_in, found_size, gone_attributes, gone_other, set_attributes, set_other}
 use Rattle.attribute_items.proofs.Items.{AreFound, found_there, record_there}
 use Rattle.attribute_items.proofs.Named.{NamesOnce, all_behind, all_filtered, beside}
 use Rattle.attribute_items.proofs.Spelled.{has_entries, spelled}

@@ -1,12 +1,12 @@
 -- An item of a tree has at most 3970 bytes.
-use Rattle.std.proofs.Common.{◌≡◌, ◌≤◌, ◌<◌, ◌+◌, ℕ, zero, suc, Bool, true, false, List, [], ◌∷◌, ◌++◌, length, get_or, take, drop, flat_map, Option, Some, Result, Ok, Err, sym, ap, subst, ◌∙◌, arith}
-use Rattle.std.specs.Prelude.{All, IsOk}
+use Rattle.std.proofs.Common.{◌≡◌, ◌≤◌, ◌+◌, ℕ, zero, suc, Bool, true, false, List, [], ◌∷◌, length, get_or, drop, flat_map, Some, Result, Ok, Err, sym, subst, arith}
+use Rattle.std.specs.Prelude.{All}
 use Rattle.std.proofs.lemmas.List.{length-take}
 use Rattle.std.proofs.lemmas.List.Elements.{All-append, All-contains, All-head, All-nil, All-tail}
 use Rattle.std.proofs.lemmas.Option.{get_or_from_slice_get}
 use Rattle.blk_base.specs.declared.fault.BlockFault.{BlockFault}
 use Rattle.blk_base.specs.declared.key.Key.{Key}
-use Rattle.blk_base.specs.Leaf.{IsLeafBody, Item, Pointer, item_end, item_of, item_offset, item_size, leaf_body_of}
+use Rattle.blk_base.specs.Leaf.{IsLeafBody, Item, Pointer, item_of, item_offset, item_size, leaf_body_of}
 use Rattle.blk_base.specs.Trees.{first_key}
 use Rattle.block_table.specs.declared.tree.Tree.{Tree}
 use Rattle.block_table.specs.Table.{Table}

@@ -1,5 +1,5 @@
 -- Entries that are written one behind the other are what their bytes spell.
-use Rattle.std.proofs.Common.{◌≡◌, ◌≢◌, ℕ, List, [], flat_map, refl, arith, inl}
+use Rattle.std.proofs.Common.{◌≢◌, ℕ, List, [], flat_map, refl, arith, inl}
 use Rattle.std.specs.List.{AllByRecursion}
 use Rattle.blk_base.specs.Entries.{EntryFits, EntryValue, IsEntries, IsEntryKind, entry_bytes}
 use Rattle.blk_base.specs.Keys.{xattr_item}

@@ -1,6 +1,5 @@
 -- An inode's record that is written, as an operation.
-use Rattle.std.proofs.Common.{◌≡◌, ℕ, Bool, true, false, List, [], Option, Some, None, refl, sym, ap, subst, ◌∙◌}
-use Rattle.std.specs.FinMap.{get}
+use Rattle.std.proofs.Common.{◌≡◌, ℕ, false, [], Option, Some, None, refl, sym, ap, subst, ◌∙◌}
 use Rattle.std.proofs.lemmas.Bool.{true≢false}
 use Rattle.block_table.specs.declared.tree.SubState.{SubState}
 use Rattle.block_table.specs.Table.{Table}
@@ -9,7 +8,7 @@ use Rattle.flat_model.specs.Operations.{Outcome, with_record, with_record_at, wi
 use Rattle.flat_model.specs.Records.{Attributes, InodeRecord, with_attributes}
 use Rattle.flat_model.specs.Refusal.{is_refusal}
 use Rattle.flat_model.specs.Running.{IsSound}
-use Rattle.flat_model.specs.Volume.{RunSub, Subvolume}
+use Rattle.flat_model.specs.Volume.{RunSub}
 use Rattle.flat_model.specs.Walk.{WalkEnd}
 use Rattle.flat_model.proofs.Sound.{KeepsSound}
 use Rattle.table_volume.specs.Edited.{Makes}

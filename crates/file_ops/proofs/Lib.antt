@@ -2,3 +2,4 @@ pub mod Placed
 pub mod Answered
 pub mod Done
 pub mod Rows
+pub mod FileRows

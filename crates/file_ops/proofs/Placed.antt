@@ -4,8 +4,7 @@ use Rattle.std.specs.FinMap.{get}
 use Rattle.flat_model.specs.Coherent.{IsCoherent}
 use Rattle.flat_model.specs.Names.{FlatName}
 use Rattle.flat_model.specs.Records.{InodeRecord}
-use Rattle.flat_model.specs.Volume.{RunSub, Subvolume}
-use Rattle.flat_model.specs.Operations.{with_record_of}
+use Rattle.flat_model.specs.Volume.{Subvolume}
 use Rattle.flat_model.specs.Walk.{WalkEnd, AtRoot, AtSlot, ino_at, is_absent, is_blocked, is_root, record_at, walk}
 use Rattle.flat_model.proofs.Maps.{some_same}
 use Rattle.flat_model.proofs.Moves.{holds_name}

@@ -1,5 +1,5 @@
 -- The rows of operations on attributes, one by one.
-use Rattle.std.proofs.Common.{◌≡◌, ℕ, Bool, true, false, List, [], ◌∷◌, Option, Some, None, length, nat_lt, refl, ap, sym, ◌∙◌}
+use Rattle.std.proofs.Common.{◌≡◌, ℕ, Bool, true, false, List, [], ◌∷◌, Option, Some, None, length, nat_lt, ap, ◌∙◌}
 use Rattle.std.specs.Option.{is_none}
 use Rattle.std.specs.FinMap.{get, insert, remove}
 use Rattle.blk_base.specs.Crc.{name_hash_of}
@@ -7,7 +7,7 @@ use Rattle.flat_model.specs.declared.answer.Answer.{Answer}
 use Rattle.flat_model.specs.declared.answer.Answer.TheVariants.{Collide, NoAttr, NoEnt, NotDir, Plain, TooLarge}
 use Rattle.flat_model.specs.Lengths.{most_item_bytes, xattr_item_length}
 use Rattle.flat_model.specs.Operations.{Outcome, attribute_rows, attributes_there, first_answer, with_attributes_at}
-use Rattle.flat_model.specs.Records.{Attributes, InodeRecord, attributes_of}
+use Rattle.flat_model.specs.Records.{InodeRecord, attributes_of}
 use Rattle.flat_model.specs.Volume.{RunSub}
 use Rattle.flat_model.specs.Walk.{WalkEnd, is_absent, is_blocked, record_at}
 use Rattle.file_ops.specs.There.{IsInodeAt}

@@ -1,9 +1,9 @@
 -- What is found at the place of an operation on attributes.
-use Rattle.std.specs.Prelude.{◌≡◌, ℕ, true, false, List, Some}
+use Rattle.std.specs.Prelude.{◌≡◌, ℕ, true, false, Some}
 use Rattle.std.specs.FinMap.{get}
 use Rattle.flat_model.specs.Records.{InodeRecord}
 use Rattle.flat_model.specs.Volume.{Subvolume}
-use Rattle.flat_model.specs.Walk.{WalkEnd, ino_at, is_absent, is_blocked, walk}
+use Rattle.flat_model.specs.Walk.{WalkEnd, ino_at, is_absent, is_blocked}
 use Rattle.file_ops.specs.declared.place.There.{There}
 use Rattle.file_ops.specs.declared.place.There.TheVariants.{At, Missing, Blocked}
 

@@ -5,8 +5,10 @@
 #![tactic(auto)]
 
 mod attributes;
+mod contents;
 mod place;
 #[cfg(test)]
 mod tests;
 
 pub use attributes::{del_attr, get_attr, set_attr};
+pub use contents::read;

@@ -1,21 +1,15 @@
 -- The sizes of the entries are those that are counted.
-use Rattle.std.proofs.Common.{◌≡◌, ◌≤◌, ◌+◌, ◌^◌, ◌-◌, ◌++◌, ℕ, List, [], ◌∷◌, Option, Some, None, length, min, take, flat_map, sum_by, nat_lt, refl, sym, ap, subst, ◌∙◌, arith}
-use Rattle.std.specs.Prelude.{IsSome}
-use Rattle.blk_base.specs.declared.key.Key.{Key}
+use Rattle.std.proofs.Common.{◌≡◌, ◌+◌, ℕ, List, Option, length, sum_by, nat_lt, refl, ap, ◌∙◌, arith}
 use Rattle.blk_base.specs.Crc.{name_hash_of}
-use Rattle.blk_base.specs.Entries.{EntryValue, entry_bytes}
 use Rattle.blk_base.specs.Keys.{xattr_item}
-use Rattle.blk_base.specs.Leaf.{Item}
 use Rattle.std.specs.FinMap.{insert}
 use Rattle.flat_model.specs.Lengths.{xattr_item_length}
-use Rattle.flat_model.specs.Records.{InodeRecord, attributes_of}
+use Rattle.flat_model.specs.Records.{attributes_of}
 use Rattle.tree_range.specs.Between.{data_under}
-use Rattle.tree_range.specs.Shape.{tree_items, tree_reach}
-use Rattle.tree_range.proofs.Rise.{All-left}
+use Rattle.tree_range.specs.Shape.{tree_items}
 use Rattle.volume_image.specs.Subvolume.{make_key}
-use Rattle.table_volume.specs.Gives.{data_in, tree_data}
-use Rattle.item_edit.specs.ItemEdit.{IsItemEdit}
-use Rattle.attribute_items.specs.Found.{entries_there, entry_size, item_of, others, written_entry}
+use Rattle.table_volume.specs.Gives.{data_in}
+use Rattle.attribute_items.specs.Found.{entries_there, entry_size, others, written_entry}
 use Rattle.attribute_items.specs.Given.{entries_at, size_with}
 use Rattle.attribute_items.proofs.Items.{found_there}
 use Rattle.attribute_items.proofs.Making.{behind_size, same_answer, set_size}

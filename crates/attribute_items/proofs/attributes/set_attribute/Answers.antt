@@ -1,17 +1,11 @@
 -- The item has the room that the subvolume's has, and what is made is that subvolume with the value.
-use Rattle.std.proofs.Common.{◌≡◌, ◌≤◌, ◌+◌, ◌^◌, ◌-◌, ◌++◌, ℕ, List, [], ◌∷◌, Option, Some, None, length, min, take, flat_map, sum_by, nat_lt, refl, sym, ap, subst, ◌∙◌, arith}
-use Rattle.std.specs.Prelude.{IsSome}
+use Rattle.std.proofs.Common.{◌≡◌, ◌≤◌, ◌++◌, ℕ, List, [], ◌∷◌, sum_by, sym, ap, subst, ◌∙◌, arith}
 use Rattle.blk_base.specs.declared.key.Key.{Key}
 use Rattle.blk_base.specs.Crc.{name_hash_of}
-use Rattle.blk_base.specs.Entries.{EntryValue, entry_bytes}
 use Rattle.blk_base.specs.Keys.{xattr_item}
-use Rattle.blk_base.specs.Leaf.{Item}
-use Rattle.flat_model.specs.Records.{InodeRecord, attributes_of}
 use Rattle.tree_range.specs.Between.{data_under}
-use Rattle.tree_range.specs.Shape.{tree_items, tree_reach}
-use Rattle.tree_range.proofs.Rise.{All-left}
+use Rattle.tree_range.specs.Shape.{tree_items}
 use Rattle.volume_image.specs.Subvolume.{make_key}
-use Rattle.table_volume.specs.Gives.{data_in, tree_data}
 use Rattle.item_edit.specs.ItemEdit.{IsItemEdit}
 use Rattle.attribute_items.specs.Found.{entries_there, entry_size, item_of, others, written_entry}
 use Rattle.block_table.specs.declared.tree.SubState.{SubState}

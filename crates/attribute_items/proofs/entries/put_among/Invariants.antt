@@ -1,5 +1,5 @@
 -- What was written, with the entries that are left, is all.
-use Rattle.std.proofs.Common.{◌≡◌, ◌+◌, ◌++◌, length, sum_by, take}
+use Rattle.std.proofs.Common.{◌≡◌, ◌+◌, ◌++◌, sum_by, take}
 use Rattle.std.specs.List.{AllByRecursion, flat_map}
 use Rattle.blk_base.specs.Entries.{entry_bytes}
 use Rattle.attribute_items.specs.Found.{IsAttribute, entry_size, others}

@@ -1,18 +1,15 @@
 -- The rows of getattr, one by one.
-use Rattle.std.proofs.Common.{◌≡◌, ℕ, Bool, true, false, not, List, [], ◌∷◌, Option, Some, None, length, nat_lt, refl, sym, ap, subst, ◌∙◌, arith}
-use Rattle.std.specs.Option.{is_none, is_some, unwrap_or}
-use Rattle.std.specs.FinMap.{get, insert, remove}
-use Rattle.std.proofs.lemmas.Bool.{le-ltb, lt-ltb}
+use Rattle.std.proofs.Common.{◌≡◌, ℕ, List, [], Option, Some, sym, ap, subst, ◌∙◌}
+use Rattle.std.specs.Option.{is_none, unwrap_or}
+use Rattle.std.specs.FinMap.{get}
 use Rattle.flat_model.specs.declared.answer.Answer.{Answer}
-use Rattle.flat_model.specs.declared.answer.Answer.TheVariants.{Bytes, Collide, NoAttr, NoEnt, NotDir, Plain, TooLarge}
-use Rattle.flat_model.specs.Operations.{Outcome, attribute_rows, attributes_there, get_attribute, remove_attribute, set_attribute, unchanged, with_attributes_at}
-use Rattle.flat_model.specs.Records.{Attributes, InodeRecord, attributes_of, with_attributes}
+use Rattle.flat_model.specs.declared.answer.Answer.TheVariants.{Bytes, NoAttr, NoEnt, NotDir}
+use Rattle.flat_model.specs.Operations.{Outcome, attribute_rows, attributes_there, get_attribute, unchanged}
+use Rattle.flat_model.specs.Records.{attributes_of}
 use Rattle.flat_model.specs.Volume.{RunSub}
 use Rattle.flat_model.specs.Walk.{WalkEnd, record_at, walk}
 use Rattle.table_volume.specs.Operated.{IsOperated}
 use Rattle.file_ops.proofs.Answered.{finished, refused, stays}
-use Rattle.file_ops.proofs.Done.{attributes_written, operated}
-use Rattle.file_ops.proofs.Placed.{record_is}
 use Rattle.file_ops.proofs.Rows.{attribute_blocked, attribute_missing, attribute_none, attribute_some, value_there}
 use Rattle.file_ops.proofs.attributes.get_attr.Goals as goal
 

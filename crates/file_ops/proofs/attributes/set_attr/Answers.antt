@@ -1,16 +1,13 @@
 -- The rows of setattr, one by one, and what is done where none holds.
-use Rattle.std.proofs.Common.{◌≡◌, ℕ, Bool, true, false, not, List, [], ◌∷◌, Option, Some, None, length, nat_lt, refl, sym, ap, subst, ◌∙◌, arith}
-use Rattle.std.specs.Option.{is_none, is_some, unwrap_or}
-use Rattle.std.specs.FinMap.{get, insert, remove}
+use Rattle.std.proofs.Common.{◌≡◌, true, false, [], Option, length, nat_lt, refl, sym, ap, ◌∙◌, arith}
+use Rattle.std.specs.FinMap.{insert}
 use Rattle.std.proofs.lemmas.Bool.{le-ltb, lt-ltb}
-use Rattle.flat_model.specs.declared.answer.Answer.{Answer}
-use Rattle.flat_model.specs.declared.answer.Answer.TheVariants.{Bytes, Collide, NoAttr, NoEnt, NotDir, Plain, TooLarge}
-use Rattle.flat_model.specs.Operations.{Outcome, attribute_rows, attributes_there, get_attribute, remove_attribute, set_attribute, unchanged, with_attributes_at}
-use Rattle.flat_model.specs.Records.{Attributes, InodeRecord, attributes_of, with_attributes}
+use Rattle.flat_model.specs.declared.answer.Answer.TheVariants.{Collide, NoEnt, NotDir, Plain, TooLarge}
+use Rattle.flat_model.specs.Operations.{attributes_there, set_attribute, with_attributes_at}
+use Rattle.flat_model.specs.Records.{InodeRecord, attributes_of, with_attributes}
 use Rattle.flat_model.specs.Volume.{RunSub}
-use Rattle.flat_model.specs.Walk.{WalkEnd, record_at, walk}
-use Rattle.table_volume.specs.Operated.{IsOperated}
-use Rattle.file_ops.proofs.Answered.{finished, refused, stays}
+use Rattle.flat_model.specs.Walk.{record_at, walk}
+use Rattle.file_ops.proofs.Answered.{finished, refused}
 use Rattle.file_ops.proofs.Done.{attributes_written, operated}
 use Rattle.file_ops.proofs.Placed.{record_is}
 use Rattle.flat_model.proofs.Steps.{set_attribute_sound}
