@@ -1,1 +1,2 @@
 pub mod LetGo
+pub mod Removal
