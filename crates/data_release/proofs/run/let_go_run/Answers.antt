@@ -1,13 +1,13 @@
-use Rattle.std.proofs.Common.{◌≡◌, ◌∙◌, ◌+◌, ◌-◌, ◌≤◌, ◌<◌, ◌^◌, ℕ, List, ◌∷◌, subst, sym, arith}
+use Rattle.std.proofs.Common.{◌≡◌, ◌+◌, ◌-◌, ◌<◌, ℕ, List, ◌∷◌, subst, arith}
 use Rattle.std.proofs.lemmas.List.Elements.{All-head}
 use Rattle.block_table.specs.declared.state.SlotState.TheVariants.{LetGo}
 use Rattle.block_table.specs.Table.{Table}
 use Rattle.block_table.specs.TreeIn.{IsTaken, block_at}
 use Rattle.tree_delete.proofs.Blocks.{IsGone, gone}
 use Rattle.volume_image.specs.Subvolume.{run_addresses}
-use Rattle.inode_removal.specs.LetGo.{AreLeft}
-use Rattle.inode_removal.proofs.Left.{one_less, run_first, run_none}
-use Rattle.inode_removal.proofs.run.let_go_run.Goals as goal
+use Rattle.data_release.specs.LetGo.{AreLeft}
+use Rattle.data_release.proofs.Left.{one_less, run_first, run_none}
+use Rattle.data_release.proofs.run.let_go_run.Goals as goal
 
 -- the run by its first block
 shown : (old now : Table) (whole : List ℕ) (at left : ℕ) → 0 < left → AreLeft old now whole (run_addresses at left) → AreLeft old now whole (at ∷ run_addresses (at + 4096) (left - 1))

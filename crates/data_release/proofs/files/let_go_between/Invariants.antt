@@ -1,10 +1,10 @@
 -- What is left: the tree's blocks, and those of the items in front of the range, from the next key on in it, and behind it.
-use Rattle.std.proofs.Common.{◌++◌, ℕ, length}
+use Rattle.std.proofs.Common.{◌++◌, length}
 use Rattle.tree_range.specs.Between.{items_between}
 use Rattle.tree_range.specs.Shape.{tree_items, tree_reach}
 use Rattle.table_volume.specs.Gives.{tree_data}
-use Rattle.inode_removal.specs.LetGo.{AreLeft, behind, files, in_front}
-use Rattle.inode_removal.proofs.files.let_go_between.Given as goal
+use Rattle.data_release.specs.LetGo.{AreLeft, behind, files, in_front}
+use Rattle.data_release.proofs.files.let_go_between.Given as goal
 
 abbrev pub invariant-loop-key : goal.invariant-loop-key
 invariant-loop-key l =

@@ -1,11 +1,10 @@
 -- One step over the items of a range: the data blocks of the first of them are let go.
-use Rattle.std.proofs.Common.{◌≡◌, ◌∙◌, ◌+◌, ◌<◌, ◌^◌, ◌++◌, ℕ, Bool, true, false, not, List, [], ◌∷◌, length, refl, sym, ap, subst, arith, append_assoc}
-use Rattle.std.specs.Prelude.{All, Contains, filter}
-use Rattle.std.specs.List.{flat_map}
+use Rattle.std.proofs.Common.{◌≡◌, ◌∙◌, ◌<◌, ◌++◌, ℕ, Bool, true, false, not, List, [], ◌∷◌, length, Option, Some, None, refl, sym, ap, subst, arith, append_assoc}
+use Rattle.std.specs.Prelude.{All, Contains, MatchOption}
 use Rattle.blk_base.specs.declared.key.Key.{Key}
 use Rattle.blk_base.specs.Keys.{KeyBelow, key_below}
 use Rattle.blk_base.specs.Leaf.{Item}
-use Rattle.blk_base.specs.Trees.{ItemsRise, NoneTwice}
+use Rattle.blk_base.specs.Trees.{NoneTwice}
 use Rattle.block_table.specs.declared.tree.Tree.{Tree}
 use Rattle.block_table.specs.Table.{Table}
 use Rattle.block_table.specs.TreeIn.{IsTaken, block_at}
@@ -18,9 +17,9 @@ use Rattle.volume_image.specs.Subvolume.{item_addresses}
 use Rattle.volume_image.proofs.Members.{in_filter}
 use Rattle.volume_image.proofs.Reaches.{head_in}
 use Rattle.table_volume.specs.Gives.{tree_data}
-use Rattle.inode_removal.specs.LetGo.{AreLeft, behind, files, in_front}
-use Rattle.inode_removal.proofs.Left.{all_left, middle_current, middle_gone, middle_once, middle_taken}
-use Rattle.inode_removal.proofs.Ranges.{between_next, key_after, parts_of}
+use Rattle.data_release.specs.LetGo.{AreLeft, behind, files, in_front}
+use Rattle.data_release.proofs.Left.{all_left, middle_current, middle_gone, middle_once, middle_taken}
+use Rattle.data_release.proofs.Ranges.{between_next, key_after, parts_of}
 
 apart : (r a x f b : List ℕ) → r ++ (a ++ ((x ++ f) ++ b)) ≡ (r ++ a) ++ (x ++ (f ++ b))
 apart r a x f b = simp append_assoc
@@ -108,3 +107,8 @@ module _ (old now : Table) (tree : Tree) (first last from : Key) (stands : IsTre
   cleared_all none =
       let is : items_between from last (tree_items old tree) ≡ [] = ap (items_between from last) (sym items_now) ∙ none in
       subst (AreLeft old now (tree_reach old tree ++ tree_data old tree)) (ap (λ (l : List Item). tree_reach old tree ++ (files (in_front first (tree_items old tree)) ++ (files l ++ files (behind last (tree_items old tree))))) is) cleared
+
+-- an answer that is no Some is None
+pub none_is : {T : Type 0} (o : Option T) (P : Type 0) (Q : T → Type 0) → ((x : T) → o ≡ Some x → ⊥) → MatchOption o P Q → P
+none_is None P Q h m = m
+none_is (Some x) P Q h m = absurd (h x refl)

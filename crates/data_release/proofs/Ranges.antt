@@ -1,7 +1,6 @@
 -- A list of items by a range of keys: those in front of it, in it and behind it, and those in it behind its first.
-use Rattle.std.proofs.Common.{◌≡◌, ◌≢◌, ◌⊎◌, ◌∙◌, ◌+◌, ◌<◌, ◌||◌, ℕ, Bool, true, false, not, List, [], ◌∷◌, ◌++◌, refl, sym, ap, subst, inl, inr, arith, append_assoc}
+use Rattle.std.proofs.Common.{◌≡◌, ◌⊎◌, ◌∙◌, ◌+◌, ℕ, Bool, true, false, not, List, [], ◌∷◌, ◌++◌, refl, sym, ap, subst, inl, inr, arith, append_assoc}
 use Rattle.std.specs.Prelude.{All, filter}
-use Rattle.std.specs.List.{flat_map}
 use Rattle.std.proofs.lemmas.Bool.{cases_Bool, false_from_ne_true, true≢false}
 use Rattle.std.proofs.lemmas.List.Elements.{All-head, All-tail, All-weaker}
 use Rattle.blk_base.specs.declared.key.Key.{Key}
@@ -10,13 +9,13 @@ use Rattle.blk_base.specs.Leaf.{Item}
 use Rattle.blk_base.specs.Trees.{ItemsRise}
 use Rattle.leaf_view.specs.KeyOrder.{KeyBelow_from, KeyBelow_irrefl, KeyBelow_parts, KeyBelow_trans}
 use Rattle.leaf_view.proofs.Rising.{key_below_from, key_below_means}
-use Rattle.tree_range.specs.Between.{AreAbove, items_between, items_from, items_up_to}
+use Rattle.tree_range.specs.Between.{AreAbove, items_between}
 use Rattle.tree_range.proofs.Rise.{rise_head, rise_tail}
 use Rattle.tree_range.proofs.Under.{filter_all, filter_none}
 use Rattle.tree_delete_range.specs.Outside.{items_outside}
 use Rattle.cow_tree.proofs.Items.{rise_filter}
 use Rattle.volume_image.specs.Subvolume.{item_addresses}
-use Rattle.inode_removal.specs.LetGo.{behind, files, in_front}
+use Rattle.data_release.specs.LetGo.{behind, files, in_front}
 use Rattle.table_volume.proofs.Items.{Lower, Same, Side, Upper, side}
 
 not_below_self : (a b : Key) → KeyBelow a b → key_below b a ≡ false

@@ -1,8 +1,7 @@
 -- The blocks that are left are the run from the next one on.
-use Rattle.std.proofs.Common.{◌≤◌, ◌≡◌, ◌≢◌, ◌+◌, ◌*◌, ℕ}
 use Rattle.volume_image.specs.Subvolume.{run_addresses}
-use Rattle.inode_removal.specs.LetGo.{AreLeft}
-use Rattle.inode_removal.proofs.run.let_go_run.Given as goal
+use Rattle.data_release.specs.LetGo.{AreLeft}
+use Rattle.data_release.proofs.run.let_go_run.Given as goal
 
 abbrev pub invariant-loop-left : goal.invariant-loop-left
 invariant-loop-left l =

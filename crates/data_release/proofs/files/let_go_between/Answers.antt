@@ -1,7 +1,12 @@
-use Rattle.std.proofs.Common.{ℕ, List, arith}
-use Rattle.volume_image.specs.Subvolume.{run_addresses}
-use Rattle.inode_removal.proofs.Clearing.{cleared_all, cleared_more, cleared_none, fewer, item_there, run_current, run_once, run_taken, tree_now}
-use Rattle.inode_removal.proofs.files.let_go_between.Goals as goal
+use Rattle.std.proofs.Common.{◌≡◌, ℕ, List, [], ◌∷◌, arith}
+use Rattle.blk_base.specs.declared.key.Key.{Key}
+use Rattle.blk_base.specs.Leaf.{Item}
+use Rattle.tree_range.specs.Between.{items_between}
+use Rattle.tree_range.specs.Shape.{tree_items}
+use Rattle.volume_image.specs.Subvolume.{item_addresses, run_addresses}
+use Rattle.data_release.specs.declared.files.Run.{Run}
+use Rattle.data_release.proofs.Clearing.{cleared_all, cleared_more, cleared_none, fewer, item_there, none_is, run_current, run_once, run_taken, tree_now}
+use Rattle.data_release.proofs.files.let_go_between.Goals as goal
 
 pub loop-key-init : goal.loop-key-init
 loop-key-init c =
@@ -44,4 +49,7 @@ loop-key-preserved c =
     cleared_more c.args.table.now c.loop-key.table c.args.tree.now c.args.first.now c.args.last.now c.loop-key.from c.requires.tree c.loop-key.invariant c.in-Some.key e.0 (run_addresses c.in-Some.run'.at.0 c.in-Some.run'.blocks) e.1 e.2 e.3 c.let_go_run.new.table c.let_go_run.ensures
 
 pub returns : goal.returns
-returns c = let h = c.in_default in ?
+returns c =
+    let items : List Item = items_between c.loop-key.from c.args.last.now (tree_items c.loop-key.table c.args.tree.now) in
+    let Q : Key × Run → Type 0 = λ first. (bytes : List ℕ) × (rest : List Item) × (items ≡ (first.0, bytes) ∷ rest) × (run_addresses first.1.at.0 first.1.blocks ≡ item_addresses (first.0, bytes)) in
+    cleared_all c.args.table.now c.loop-key.table c.args.tree.now c.args.first.now c.args.last.now c.loop-key.from c.requires.tree c.loop-key.invariant (none_is c.first_run.result (items ≡ []) Q c.in_default.not-Some c.first_run.ensures)

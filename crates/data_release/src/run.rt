@@ -3,7 +3,7 @@ ghost use Rattle.blk_base.specs.Trees.{NoneTwice};
 ghost use Rattle.block_table.specs.TreeIn.{IsTaken};
 ghost use Rattle.tree_frame.specs.Frame.{AreCurrent};
 ghost use Rattle.volume_image.specs.Subvolume.{run_addresses};
-ghost use Rattle.inode_removal.specs.LetGo.{AreLeft};
+ghost use Rattle.data_release.specs.LetGo.{AreLeft};
 
 use blk_base::Addr;
 use blk_base::format::BLOCK_SIZE;

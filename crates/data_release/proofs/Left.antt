@@ -1,7 +1,7 @@
 -- Blocks that are left, with some let go.
-use Rattle.std.proofs.Common.{◌≡◌, ◌≢◌, ◌∙◌, ◌+◌, ◌-◌, ◌≤◌, ◌<◌, ℕ, zero, suc, List, [], ◌∷◌, ◌++◌, length, refl, sym, ap, subst, arith, append_assoc}
-use Rattle.std.specs.Prelude.{All, Contains, slice_index_or}
-use Rattle.std.proofs.lemmas.List.Elements.{All-append, All-head, All-tail}
+use Rattle.std.proofs.Common.{◌≡◌, ◌≢◌, ◌∙◌, ◌+◌, ◌-◌, ◌≤◌, ◌<◌, ℕ, zero, suc, List, [], ◌∷◌, ◌++◌, length, refl, sym, ap, subst, arith}
+use Rattle.std.specs.Prelude.{All, slice_index_or}
+use Rattle.std.proofs.lemmas.List.Elements.{All-append, All-tail}
 use Rattle.blk_base.specs.Address.{IsAllowed}
 use Rattle.blk_base.specs.Trees.{NoneTwice}
 use Rattle.block_table.specs.declared.state.SlotState.TheVariants.{LetGo}
@@ -15,7 +15,7 @@ use Rattle.tree_frame.specs.Frame.{AreCurrent, IsEdit, TakesAtMost}
 use Rattle.tree_frame.proofs.Among.{alike_left, alike_right, edit_among, once_among}
 use Rattle.tree_frame.proofs.EditLaws.{edits_join, nothing_is_an_edit}
 use Rattle.volume_image.specs.Subvolume.{run_addresses}
-use Rattle.inode_removal.specs.LetGo.{AreLeft}
+use Rattle.data_release.specs.LetGo.{AreLeft}
 
 still_taken : (old new : Table) → length new.slots ≡ length old.slots → (at : ℕ) → block_at new at ≡ block_at old at → IsTaken old at → IsTaken new at
 still_taken old new size at same was = record {

@@ -9,7 +9,7 @@ ghost use Rattle.tree_range.specs.Shape.{IsTree, tree_items, tree_reach};
 ghost use Rattle.tree_frame.specs.Frame.{AreCurrent};
 ghost use Rattle.volume_image.specs.Subvolume.{item_addresses, run_addresses};
 ghost use Rattle.table_volume.specs.Gives.{tree_data};
-ghost use Rattle.inode_removal.specs.LetGo.{AreLeft, behind, files, in_front};
+ghost use Rattle.data_release.specs.LetGo.{AreLeft, behind, files, in_front};
 
 use crate::run::let_go_run;
 use blk_base::format::{BLOCK_SIZE, EXTENT_DATA};
@@ -59,7 +59,7 @@ fn first_run(table: &BlockTable, tree: &Tree, from: &Key, last: &Key) -> Option<
 }
 
 /// Lets the data blocks go to which the items of a tree from one key to another lead, both included. The tree stays.
-pub(crate) fn let_go_between(table: &mut BlockTable, tree: &Tree, first: &Key, last: &Key)
+pub fn let_go_between(table: &mut BlockTable, tree: &Tree, first: &Key, last: &Key)
     requires tree { IsTree table.old tree.now }
     requires order { KeyBelow first.now last.now }
     requires offsets { (key : KeyValue) (bytes : List ℕ) → Contains (tree_items table.old tree.now) (key, bytes) → key.offset + 1 < 2 ^ 64 }

@@ -1,2 +1,0 @@
-pub mod LetGo
-pub mod Removal
