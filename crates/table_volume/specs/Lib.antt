@@ -3,3 +3,4 @@ pub mod Edited
 pub mod TreeEdit
 pub mod Running
 pub mod Keyed
+pub mod Operated

@@ -1,0 +1,5 @@
+pub mod Placed
+pub mod Answered
+pub mod Done
+pub mod Rows
+pub mod FileRows

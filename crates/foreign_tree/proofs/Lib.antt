@@ -1,0 +1,5 @@
+pub mod Told
+mod Bytes
+mod Walking
+mod Reaches
+pub mod Trees
