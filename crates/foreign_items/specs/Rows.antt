@@ -1,12 +1,12 @@
 -- The items of a subvolume as rows, in the order of its tree.
-use Rattle.std.specs.Prelude.{ℕ, ◌==◌, List, filter, map, Some, Result, Ok}
+use Rattle.std.specs.Prelude.{◌≡◌, ℕ, ◌==◌, List, filter, map, Some, Result, Ok}
 use Rattle.blk_base.specs.declared.fault.ItemFault.{ItemFault}
 use Rattle.blk_base.specs.declared.key.Key.{Key}
 use Rattle.foreign_format.specs.declared.fault.ForeignFault.{ForeignFault}
 use Rattle.foreign_format.specs.Answer.{and_then}
 use Rattle.foreign_format.specs.Items.{EntryValue, entry_of, extent_of, inode_of}
 use Rattle.foreign_tree.specs.declared.volume.Wanted.{Wanted}
-use Rattle.foreign_tree.specs.Tree.{Found, VolumeValue, tree_of}
+use Rattle.foreign_tree.specs.Tree.{Found, IsTree, VolumeValue, tree_of}
 use Rattle.foreign_volume.specs.declared.roots.Subvolume.{Subvolume}
 use Rattle.foreign_items.specs.declared.rows.InodeRow.{InodeRow}
 use Rattle.foreign_items.specs.declared.rows.ExtentRow.{ExtentRow}
@@ -45,6 +45,13 @@ rows_of items = record { inodes = map inode_row (of_kind 1 items); names = map n
 -- the root of a subvolume's tree ("ROOT_ITEM": bytenr, generation, level)
 abbrev pub sub_root : Subvolume → Wanted
 sub_root sub = record { at = sub.root.at; generation = Some sub.root.generation; level = sub.root.level }
+
+-- the rows are those of the items of the subvolume's tree
+pub record AreItems (disk : List ℕ) (volume : VolumeValue) (sub : Subvolume) (rows : ItemsValue) : Type 0 where
+  pub items : List Found
+  pub reach : List ℕ
+  pub tree : IsTree volume disk (sub_root sub) items reach
+  pub are : rows ≡ rows_of items
 
 -- the rows of a subvolume, or the first fault of its tree
 unfoldable pub items_of : List ℕ → VolumeValue → Subvolume → Result ItemsValue ForeignFault

@@ -6,6 +6,7 @@
 #![tactic(auto)]
 
 mod items;
+pub mod laws;
 mod rows;
 
 pub use items::{SubvolumeItems, read_items};

@@ -2,4 +2,4 @@ pub mod Told
 mod Bytes
 mod Walking
 mod Reaches
-mod Trees
+pub mod Trees

@@ -19,9 +19,9 @@ use Rattle.foreign_tree.proofs.Walking.{child_walk, with_block, with_more}
 -- ---- steps of a walk
 
 -- a step that went well, and what came after it
-bind_ok : {A B : Type 0} (r : Result A ForeignFault) (f : A → Result B ForeignFault) (y : B) → and_then r f ≡ Ok y → (x : A) × (r ≡ Ok x) × (f x ≡ Ok y)
-bind_ok (Ok x) f y h = (x, refl, h)
-bind_ok (Err fault) f y h = absurd cc
+pub and_then_ok : {A B : Type 0} (r : Result A ForeignFault) (f : A → Result B ForeignFault) (y : B) → and_then r f ≡ Ok y → (x : A) × (r ≡ Ok x) × (f x ≡ Ok y)
+and_then_ok (Ok x) f y h = (x, refl, h)
+and_then_ok (Err fault) f y h = absurd cc
 
 fresh_ok : (place : Option ℕ) (at : ℕ) (reached : List ℕ) (found : ℕ) → fresh_place place at reached ≡ Ok found → (place ≡ Some found) × (was_reached at reached ≡ false)
 fresh_ok None at reached found h = absurd cc
@@ -38,7 +38,7 @@ checked_ok at place (Err fault) found h = absurd cc
 opened_ok : (volume : VolumeValue) (disk : List ℕ) (level at : ℕ) (generation : Option ℕ) (reached : List ℕ) (place : ℕ) → opened volume disk level at generation reached ≡ Ok place
     → IsBlock volume disk level at generation place × (Contains reached at → ⊥)
 opened_ok volume disk level at generation reached place h =
-    let step = bind_ok (entered volume at reached) _ place h in
+    let step = and_then_ok (entered volume at reached) _ place h in
     let here = fresh_ok (physical_of volume.chunks at volume.node_size) at reached step.0 step.1 in
     let right = checked_ok at step.0 (check_block volume.fsid at generation level (node_at volume disk step.0)) place step.2 in
     (record { mapped = here.0 ∙ ap Some right.1; checked = subst (λ (p : ℕ). check_block volume.fsid at generation level (node_at volume disk p) ≡ Ok tt) right.1 right.0 }, not_reached at reached here.1)
@@ -71,7 +71,7 @@ children_forward child C step [] before after h = record {
   met = sym (same_ok h) ∙ (λ i. record { items = sym (append-nil before.items) i; reached = sym (append-nil before.reached) i });
 }
 children_forward child C step (pointer ∷ pointers) before after h =
-    let bound = bind_ok (child pointer before) (walk_children child pointers) after h in
+    let bound = and_then_ok (child pointer before) (walk_children child pointers) after h in
     let mid = bound.0 in
     let one = step pointer before mid bound.1 in
     let items : mid.items ≡ before.items ++ one.items = ap (λ (w : Walked). w.items) one.met in
@@ -124,7 +124,7 @@ only_this at x reached fresh c d = elim (Contains-cons_cases at [] x d) [
 walk_forward : (level : ℕ) (volume : VolumeValue) (disk : List ℕ) (at : ℕ) (generation : Option ℕ) (before after : Walked)
     → walk_from level volume disk at generation before ≡ Ok after → Adds (IsSubtree level volume disk at generation) before after
 walk_forward zero volume disk at generation before after h =
-    let step = bind_ok (opened volume disk zero at generation before.reached) _ after h in
+    let step = and_then_ok (opened volume disk zero at generation before.reached) _ after h in
     let block = opened_ok volume disk zero at generation before.reached step.0 step.1 in
     record {
       items = items_of at step.0 (node_at volume disk step.0);
@@ -135,7 +135,7 @@ walk_forward zero volume disk at generation before after h =
       met = sym (same_ok step.2);
     }
 walk_forward (suc level) volume disk at generation before after h =
-    let step = bind_ok (opened volume disk (suc level) at generation before.reached) _ after h in
+    let step = and_then_ok (opened volume disk (suc level) at generation before.reached) _ after h in
     let block = opened_ok volume disk (suc level) at generation before.reached step.0 step.1 in
     let kids = children_forward (child_walk level volume disk) (λ pointer part near. IsSubtree level volume disk pointer.at (Some pointer.generation) part near)
     (λ pointer b a r. walk_forward level volume disk pointer.at (Some pointer.generation) b a r)

@@ -1,5 +1,5 @@
 -- A volume that is opened: its superblock, and the chunks by which its trees are read.
-use Rattle.std.specs.Prelude.{ℕ, ◌*◌, ◌==◌, List, [], fold, slice_index_or, None, Result, Ok, if◌then◌else◌}
+use Rattle.std.specs.Prelude.{◌≡◌, ℕ, ◌*◌, ◌==◌, List, [], fold, slice_index_or, None, Result, Ok, if◌then◌else◌}
 use Rattle.blk_base.specs.declared.format.TheConstants.{BLOCK_SIZE, SUPER_BLOCK}
 use Rattle.blk_base.specs.Bytes.{Image, bytes_at, field, zeros}
 use Rattle.foreign_format.specs.declared.chunk.Chunk.{Chunk}
@@ -10,7 +10,7 @@ use Rattle.foreign_format.specs.Answer.{and_then}
 use Rattle.foreign_format.specs.Chunks.{array_rows, in_row, put_row, row_of}
 use Rattle.foreign_format.specs.Super.{super_of}
 use Rattle.foreign_tree.specs.declared.volume.Wanted.{Wanted}
-use Rattle.foreign_tree.specs.Tree.{Found, VolumeValue, disk_bytes, tree_of}
+use Rattle.foreign_tree.specs.Tree.{Found, IsTree, VolumeValue, disk_bytes, tree_of}
 
 -- the block of the superblock; a disk without it counts as zeros there ("Superblock")
 abbrev pub super_bytes : Image → List ℕ
@@ -53,6 +53,19 @@ tree_chunks blocks image superblock chunks =
 pub record OpenedValue : Type 0 where
   pub superblock : Superblock
   pub volume : VolumeValue
+
+-- The disk of so many blocks has this volume: its superblock passes its checks; the chunks in it lead to a chunk tree; and the
+-- chunk items of that tree are chunks, each behind the one before it, and the map of all else.
+pub record IsOpened (blocks : ℕ) (image : Image) (opened : OpenedValue) : Type 0 where
+  pub superblock : super_of (super_bytes image) ≡ Ok opened.superblock
+  pub first : List Chunk
+  pub array : array_chunks blocks (super_bytes image) ≡ Ok first
+  pub items : List Found
+  pub reach : List ℕ
+  pub tree : IsTree (volume_with opened.superblock first) (disk_bytes image) (chunk_root opened.superblock) items reach
+  pub chunks : List Chunk
+  pub mapped : in_row (size_of blocks) 0 [] (chunk_rows items) ≡ Ok chunks
+  pub volume : opened.volume ≡ volume_with opened.superblock chunks
 
 -- the volume on a disk of so many blocks, or the first fault: of the superblock, of its chunks, of the chunk tree, of that tree's chunks
 unfoldable pub opened_of : ℕ → Image → Result OpenedValue ForeignFault

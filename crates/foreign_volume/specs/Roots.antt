@@ -1,5 +1,5 @@
 -- The subvolumes of a volume, by the root items in its root tree.
-use Rattle.std.specs.Prelude.{ℕ, ◌-◌, ◌^◌, ◌==◌, Bool, ◌&&◌, ◌||◌, nat_le, nat_lt, List, [], ◌∷◌, fold, Option, Some, None, Result, Ok, Err, if◌then◌else◌}
+use Rattle.std.specs.Prelude.{◌≡◌, ℕ, ◌-◌, ◌^◌, ◌==◌, Bool, ◌&&◌, ◌||◌, nat_le, nat_lt, List, [], ◌∷◌, fold, Option, Some, None, Result, Ok, Err, if◌then◌else◌}
 use Rattle.blk_base.specs.declared.fault.ItemFault.{ItemFault}
 use Rattle.foreign_format.specs.declared.fault.ForeignFault.{ForeignFault}
 use Rattle.foreign_format.specs.declared.fault.ForeignFault.TheVariants.{Item}
@@ -8,7 +8,7 @@ use Rattle.foreign_format.specs.declared.superblock.Superblock.{Superblock}
 use Rattle.foreign_format.specs.Answer.{and_then}
 use Rattle.foreign_format.specs.Items.{root_of}
 use Rattle.foreign_tree.specs.declared.volume.Wanted.{Wanted}
-use Rattle.foreign_tree.specs.Tree.{Found, VolumeValue, tree_of}
+use Rattle.foreign_tree.specs.Tree.{Found, IsTree, VolumeValue, tree_of}
 use Rattle.foreign_volume.specs.declared.roots.Subvolume.{Subvolume}
 
 -- an item's own fault, by its leaf and its key
@@ -48,6 +48,13 @@ with_root_item before found =
 -- the subvolumes of the root tree's items in ascending order, or the first item's fault
 abbrev pub subs_of : List Found → Result (List Subvolume) ForeignFault
 subs_of items = fold with_root_item (Ok []) items
+
+-- the subvolumes are those of the root items in the volume's root tree, none of which has a fault
+pub record AreSubvolumes (disk : List ℕ) (volume : VolumeValue) (superblock : Superblock) (subs : List Subvolume) : Type 0 where
+  pub items : List Found
+  pub reach : List ℕ
+  pub tree : IsTree volume disk (top_root superblock) items reach
+  pub are : subs_of items ≡ Ok subs
 
 -- the subvolumes of a volume with this superblock in ascending order, or the first fault: of the root tree, then of an item in it
 unfoldable pub subvolumes_of : List ℕ → VolumeValue → Superblock → Result (List Subvolume) ForeignFault

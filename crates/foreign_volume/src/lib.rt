@@ -5,6 +5,7 @@
 #![tactic(auto)]
 
 mod chunks;
+pub mod laws;
 mod opened;
 mod roots;
 
