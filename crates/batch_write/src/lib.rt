@@ -7,8 +7,6 @@
 mod batch;
 pub mod laws;
 mod superblock;
-#[cfg(test)]
-mod tests;
 
 pub use batch::write_batch;
 pub use superblock::write_super_again;

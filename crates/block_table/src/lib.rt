@@ -13,8 +13,6 @@ mod slot;
 mod state;
 mod steps;
 mod table;
-#[cfg(test)]
-mod tests;
 mod tree;
 
 pub use batch::{Batch, Part, Parts};

@@ -13,10 +13,6 @@ mod leaf;
 mod node;
 mod own;
 mod pieces;
-#[cfg(test)]
-mod rows;
-#[cfg(test)]
-mod tests;
 mod write;
 
 pub use edit::{put, replace};

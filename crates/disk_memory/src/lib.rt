@@ -15,8 +15,6 @@ mod list_disk;
 mod memory_disk;
 mod never_fails;
 mod plan;
-#[cfg(test)]
-mod tests;
 
 pub use fault::MemoryDiskFault;
 pub use list_disk::ListDisk;

@@ -5,8 +5,6 @@ mod check;
 mod inodes;
 mod items;
 mod names;
-#[cfg(test)]
-mod tests;
 mod ways;
 
 pub use check::is_coherent;

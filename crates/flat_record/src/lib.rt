@@ -9,8 +9,6 @@ mod blocks;
 mod file;
 mod record;
 mod table;
-#[cfg(test)]
-mod tests;
 
 pub use record::Inode;
 pub use table::{drop_entries, place_of, put_entry};

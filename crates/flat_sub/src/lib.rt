@@ -7,8 +7,6 @@ mod making;
 mod moving;
 mod removal;
 mod sub;
-#[cfg(test)]
-mod tests;
 mod walk;
 
 pub use list::Item;

@@ -1,20 +1,12 @@
 //! The plain, slow volume: every operation as its definition has it, for tests and for judging an image from outside.
 #![tactic(auto)]
 
-#[cfg(test)]
-mod applied;
 mod applying;
 mod copying;
 mod flat_view;
 mod putting;
 mod reading;
-#[cfg(test)]
-mod script;
 mod subvolumes;
-#[cfg(test)]
-mod tests;
-#[cfg(test)]
-mod told;
 mod volume;
 
 pub use applying::is_in_limits;

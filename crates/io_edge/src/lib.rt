@@ -12,8 +12,6 @@ mod printed;
 mod reading;
 mod sink;
 mod source;
-#[cfg(test)]
-mod tests;
 mod text;
 
 pub use memory_sink::{MemorySink, SINK_ROOM};

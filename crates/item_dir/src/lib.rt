@@ -5,8 +5,6 @@
 mod entries;
 mod entry;
 mod range;
-#[cfg(test)]
-mod tests;
 mod write;
 
 pub use blk_base::ItemFault;

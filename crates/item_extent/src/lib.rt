@@ -3,8 +3,6 @@
 #![tactic(auto)]
 
 mod extent;
-#[cfg(test)]
-mod tests;
 mod write;
 
 pub use blk_base::ItemFault;

@@ -6,8 +6,6 @@ mod extrefs;
 mod inode;
 mod names;
 mod refs;
-#[cfg(test)]
-mod tests;
 mod write;
 
 pub use blk_base::ItemFault;

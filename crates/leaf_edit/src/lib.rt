@@ -18,6 +18,3 @@ pub use header::put_key;
 pub use laws::{leaves_fit, loans_come_back, packed_leaves_pass, places_keep_order};
 pub use leaf_mut::LeafMut;
 pub use seal::seal_block;
-
-#[cfg(test)]
-mod tests;

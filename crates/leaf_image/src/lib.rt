@@ -9,8 +9,6 @@ mod image;
 mod leaves;
 mod needed;
 mod superblock;
-#[cfg(test)]
-mod tests;
 
 pub use image::{LeafImage, leaf_image};
 pub use needed::blocks_needed;

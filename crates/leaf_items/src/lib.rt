@@ -20,6 +20,3 @@ mod volume;
 pub use file::{LeafFile, block_addresses, files, put_file};
 pub use names::put_names;
 pub use volume::{bare_volume, is_leaf_of};
-
-#[cfg(test)]
-mod tests;

@@ -6,8 +6,6 @@
 mod fault;
 mod laws;
 mod run;
-#[cfg(test)]
-mod tests;
 
 pub use fault::RunFault;
 pub use laws::a_script_is_allowed;

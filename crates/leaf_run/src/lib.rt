@@ -8,8 +8,6 @@ mod call;
 mod laws;
 mod run;
 mod spelled;
-#[cfg(test)]
-mod tests;
 
 pub use laws::held_is_kept;
 pub use run::LeafRun;

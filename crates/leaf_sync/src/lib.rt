@@ -10,8 +10,6 @@ mod free;
 mod settle;
 mod store;
 mod sync;
-#[cfg(test)]
-mod tests;
 
 pub use fault::SyncFault;
 pub use store::{Found, LeafStore};

@@ -13,6 +13,3 @@ mod search;
 pub use leaf::{LeafView, is_leaf_body};
 pub use node::{NodeView, is_node_body};
 pub use read::key_at;
-
-#[cfg(test)]
-mod tests;

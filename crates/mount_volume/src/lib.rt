@@ -11,8 +11,6 @@ mod mounted;
 mod mounting;
 mod reach;
 mod roots;
-#[cfg(test)]
-mod tests;
 mod volume_blocks;
 
 pub use fault::MountFault;

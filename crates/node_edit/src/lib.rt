@@ -8,6 +8,3 @@ mod body;
 mod node_mut;
 
 pub use node_mut::NodeMut;
-
-#[cfg(test)]
-mod tests;

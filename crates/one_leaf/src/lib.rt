@@ -13,8 +13,6 @@ mod laws;
 mod push;
 mod put;
 mod small;
-#[cfg(test)]
-mod tests;
 
 pub use fits::{is_one_leaf, is_one_leaf_sub};
 pub use laws::{items_are_known_by_keys, items_take_so_many_bytes};

@@ -6,8 +6,6 @@
 mod answer;
 mod bytes;
 mod line;
-#[cfg(test)]
-mod tests;
 mod words;
 
 pub use answer::FirstAnswer;

@@ -6,15 +6,9 @@ mod answer;
 mod command;
 mod fault_text;
 mod list;
-#[cfg(test)]
-mod list_tests;
 mod request;
 mod run;
-#[cfg(test)]
-mod run_tests;
 mod status;
-#[cfg(test)]
-mod tests;
 mod text;
 mod words;
 

@@ -12,8 +12,6 @@ mod parts;
 mod path;
 mod request;
 mod script;
-#[cfg(test)]
-mod tests;
 mod text;
 
 pub use fault::{ScriptFault, ScriptKind};

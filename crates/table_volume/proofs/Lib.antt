@@ -6,3 +6,5 @@ pub mod Bits
 pub mod Keyed
 pub mod Changing
 pub mod Changes
+pub mod Items
+pub mod SubEdits

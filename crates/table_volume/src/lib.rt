@@ -8,6 +8,7 @@
 #![tactic(auto)]
 
 pub mod change;
+pub mod edited;
 pub mod edits;
 pub mod frame;
 pub mod gives;

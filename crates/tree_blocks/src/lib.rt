@@ -21,6 +21,3 @@ pub use read::{
     is_leaf, is_node, leaf_data, leaf_find, leaf_follows, leaf_key, leaf_len, leaf_room,
     node_child, node_find, node_follows, node_key, node_len,
 };
-
-#[cfg(test)]
-mod tests;

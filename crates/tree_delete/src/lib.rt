@@ -11,6 +11,3 @@ mod pair;
 mod root;
 
 pub use root::delete;
-
-#[cfg(test)]
-mod tests;

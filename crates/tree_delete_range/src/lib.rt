@@ -6,7 +6,5 @@
 
 mod between;
 pub mod laws;
-#[cfg(test)]
-mod tests;
 
 pub use between::delete_range;

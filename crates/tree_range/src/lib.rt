@@ -12,8 +12,6 @@ mod descent;
 pub mod laws;
 mod search;
 mod spot;
-#[cfg(test)]
-mod tests;
 mod walk;
 
 pub use check::is_tree;

@@ -7,8 +7,6 @@
 
 mod root_item;
 mod superblock;
-#[cfg(test)]
-mod tests;
 
 pub use blk_base::{RootFault, SuperFault};
 pub use format_laws::{root_reads_back, super_is_block, super_reads_back};

@@ -7,8 +7,6 @@
 mod lines;
 mod listing;
 mod order;
-#[cfg(test)]
-mod tests;
 mod text;
 mod walk;
 

@@ -1,0 +1,17 @@
+pub mod Rising
+pub mod Readings
+pub mod Entries
+pub mod Asking
+pub mod OfNames
+pub mod Held
+pub mod OfInodes
+pub mod OfLines
+pub mod Once
+pub mod FromNames
+pub mod FromItems
+pub mod FromExtents
+pub mod FromLines
+pub mod Firsts
+pub mod WorkedNumbers
+pub mod ExtentSums
+pub mod RefSums

@@ -1,0 +1,3 @@
+pub mod Kinded
+pub mod Own
+pub mod Fellows

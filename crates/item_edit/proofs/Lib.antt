@@ -1,0 +1,4 @@
+pub mod Front
+pub mod Changed
+pub mod Inodes
+pub mod Files

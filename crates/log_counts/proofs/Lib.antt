@@ -1,0 +1,5 @@
+pub mod Things
+pub mod Lengths
+pub mod Distinct
+pub mod Had
+pub mod Counted

@@ -1,0 +1,11 @@
+pub mod OneLog
+pub mod Limits
+pub mod Keys
+pub mod Clashes
+pub mod Sayings
+pub mod Broken
+pub mod Accepted
+pub mod Exact
+pub mod Refused
+pub mod Computing
+pub mod Plants

@@ -1,0 +1,4 @@
+pub mod LogItems
+pub mod LogRules
+pub mod Laws
+pub mod Planted

@@ -1,0 +1,3 @@
+pub mod StepLogs
+pub mod Computing
+pub mod RowLemmas

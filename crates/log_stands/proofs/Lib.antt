@@ -1,0 +1,3 @@
+pub mod Local
+pub mod One
+pub mod Sound

@@ -1,0 +1,2 @@
+pub mod StandsWithLog
+pub mod Laws

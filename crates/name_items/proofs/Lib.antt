@@ -1,0 +1,15 @@
+pub mod Perms
+pub mod NameLists
+pub mod Held
+pub mod UnderKeys
+pub mod AskedLists
+pub mod Inodes
+pub mod Adding
+pub mod Steps
+pub mod Found
+pub mod NameEdit
+pub mod AddedName
+pub mod Seen
+pub mod Opened
+pub mod Removing
+pub mod RemovedName

@@ -1,0 +1,6 @@
+pub mod Counting
+pub mod Finding
+pub mod InSlots
+pub mod ItemLens
+pub mod Reading
+pub mod Ways

@@ -1,0 +1,253 @@
+use crate::making::FSID;
+use disk_memory::MemoryDisk;
+use disk_model::Disk;
+use io_edge::{MemorySink, MemorySource};
+use script_runner::{Status, drive};
+use std::alloc::Global;
+use std::test::Fail;
+
+/// Makes a file, writes it and syncs.
+const SYNCED: &[u8] = b"1 create /a\n1 write /a 0 hi\n1 sync\n";
+
+/// The listing of an empty volume.
+const EMPTY: &[u8] = b"sub 5\n256 dir 1 0 - /\ndone 1\n";
+
+/// The listing of the volume that `SYNCED` leaves.
+const WRITTEN: &[u8] = b"sub 5\n256 dir 1 2 - /\n257 file 1 2 f59dd9c2 /a\ndone 2\n";
+
+/// Does one command, with a script as the source.
+fn command<D: Disk>(
+    alloc: Global,
+    word: &str,
+    script: &[u8],
+    disk: &mut D,
+    to: &mut MemorySink,
+) -> Result<Status, Fail> {
+    let mut words = Vec::new(alloc);
+    words.push(String::from_str(alloc, word)?)?;
+    let mut from = MemorySource::new(alloc, script, &[])?;
+    Ok(drive(alloc, &words, &mut from, to, disk))
+}
+
+/// The answer to a script, and its text.
+fn run<D: Disk>(alloc: Global, script: &[u8], disk: &mut D) -> Result<(Status, MemorySink), Fail> {
+    let mut to = MemorySink::new(alloc, &[])?;
+    let status = command(alloc, "run", script, disk, &mut to)?;
+    Ok((status, to))
+}
+
+/// The answer to a `list`, and its text.
+fn list<D: Disk>(alloc: Global, disk: &mut D) -> Result<(Status, MemorySink), Fail> {
+    let mut to = MemorySink::new(alloc, &[])?;
+    let status = command(alloc, "list", b"", disk, &mut to)?;
+    Ok((status, to))
+}
+
+/// A disk with an empty volume of 4096 blocks, whose device calls with these numbers fail, from 1; the volume was made by the first
+/// four.
+fn made_failing(alloc: Global, fails: &[u64]) -> Result<MemoryDisk, Fail> {
+    let mut disk = MemoryDisk::new(alloc, 4096, 64, fails)?;
+    let mut words = Vec::new(alloc);
+    for word in ["mkfs", FSID, "4096", "1"] {
+        words.push(String::from_str(alloc, word)?)?;
+    }
+    let mut from = MemorySource::new(alloc, b"", &[])?;
+    let mut to = MemorySink::new(alloc, &[])?;
+    drive(alloc, &words, &mut from, &mut to, &mut disk);
+    Ok(disk)
+}
+
+/// A disk with an empty volume of 4096 blocks, whose device calls from the one behind so many on fail.
+fn made(alloc: Global, calls: u64) -> Result<MemoryDisk, Fail> {
+    let mut disk = made_failing(alloc, &[])?;
+    disk.stop_after(calls);
+    Ok(disk)
+}
+
+/// More device calls than any of these scripts makes.
+const ALL: u64 = 1000;
+
+/// Twelve files, of which eleven fit a leaf with one extent.
+const TWELVE: &[u8] = b"1 create /a
+1 create /b
+1 create /c
+1 create /d
+1 create /e
+1 create /f
+1 create /g
+1 create /h
+1 create /i
+1 create /j
+1 create /k
+1 create /l
+1 write /a 0 x
+1 write /b 0 x
+1 sync
+";
+
+/// The text of `TWELVE`.
+const TWELVE_TEXT: &str = "1 ok 257
+1 ok 258
+1 ok 259
+1 ok 260
+1 ok 261
+1 ok 262
+1 ok 263
+1 ok 264
+1 ok 265
+1 ok 266
+1 ok 267
+1 oneleaf
+1 ok 1
+1 oneleaf
+1 ok sync
+done 15
+";
+
+#[test]
+fn a_script_has_its_text_and_its_volume(rt: HostRuntime) -> Result<(), Fail> {
+    let rows = [
+        (SYNCED, "1 ok 257\n1 ok 2\n1 ok sync\ndone 3\n", WRITTEN),
+        (b"".as_slice(), "done 0\n", EMPTY),
+        (
+            b"# a file\n\n16 create /a".as_slice(),
+            "16 ok 257\ndone 1\n",
+            EMPTY,
+        ),
+    ];
+    for (script, text, listing) in rows {
+        let mut disk = made(rt.alloc(), ALL)?;
+        let (status, told) = run(rt.alloc(), script, &mut disk)?;
+        assert_eq!(rt; status, Status::Done);
+        assert_eq!(rt; told.bytes(), text.as_bytes());
+        let (status, listed) = list(rt.alloc(), &mut disk)?;
+        assert_eq!(rt; status, Status::Done);
+        assert_eq!(rt; listed.bytes(), listing);
+    }
+    let mut disk = made(rt.alloc(), ALL)?;
+    let (_, told) = run(rt.alloc(), TWELVE, &mut disk)?;
+    assert_eq!(rt; told.bytes(), TWELVE_TEXT.as_bytes());
+    Ok(())
+}
+
+/// Lists images that a crash may leave of a disk: how many are as before the script, how many as after it, and how many
+/// are neither.
+fn crashes(alloc: Global, disk: &MemoryDisk) -> Result<(u32, u32, u32), Fail> {
+    let mut found = (0u32, 0u32, 0u32);
+    for pick in 0..8 {
+        let mut image = disk.crash(alloc, pick)?;
+        let (_, text) = list(alloc, &mut image)?;
+        if text.bytes() == EMPTY {
+            found.0 = found.0.saturating_add(1);
+        } else if text.bytes() == WRITTEN {
+            found.1 = found.1.saturating_add(1);
+        } else {
+            found.2 = found.2.saturating_add(1);
+        }
+    }
+    Ok(found)
+}
+
+/// The exit status of `SYNCED` on a disk that stops behind so many device calls, whether its text is this one, and the
+/// images that a crash leaves.
+fn stopped(alloc: Global, calls: u64, text: &str) -> Result<(u8, bool, (u32, u32, u32)), Fail> {
+    let mut disk = made(alloc, calls)?;
+    let (status, told) = run(alloc, SYNCED, &mut disk)?;
+    let found = crashes(alloc, &disk)?;
+    Ok((status.code(), told.bytes() == text.as_bytes(), found))
+}
+
+/// The text of `SYNCED` on a disk that fails in the sync.
+const FAILED: &str = "1 ok 257\n1 ok 2\n1 io\ndone 3\n";
+
+#[test]
+fn a_crash_leaves_the_old_volume_or_the_new(rt: HostRuntime) -> Result<(), Fail> {
+    // Three reads of the mount, three writes, the flush and the superblock.
+    let rows = [
+        (0, 4, "disk\n", (8, 0, 0)),
+        (1, 4, "disk\n", (8, 0, 0)),
+        (2, 4, "disk\n", (8, 0, 0)),
+        (3, 0, FAILED, (8, 0, 0)),
+        (4, 0, FAILED, (8, 0, 0)),
+        (5, 0, FAILED, (8, 0, 0)),
+        (6, 0, FAILED, (8, 0, 0)),
+        (8, 0, "1 ok 257\n1 ok 2\n1 ok sync\ndone 3\n", (0, 8, 0)),
+    ];
+    for (calls, code, text, found) in rows {
+        assert_eq!(rt; stopped(rt.alloc(), calls, text)?, (code, true, found));
+    }
+    // Where the write of the superblock fails, one of both.
+    let (code, is_text, (old, new, other)) = stopped(rt.alloc(), 7, FAILED)?;
+    assert_eq!(rt; (code, is_text, other), (0, true, 0));
+    assert!(rt; old > 0 && new > 0);
+    Ok(())
+}
+
+#[test]
+fn a_sync_makes_good_one_that_failed(rt: HostRuntime) -> Result<(), Fail> {
+    // Four calls made the volume; three reads, three writes, the flush and the superblock follow.
+    for fails in [8, 10, 11, 12] {
+        let mut disk = made_failing(rt.alloc(), &[fails])?;
+        let script = b"1 create /a\n1 write /a 0 hi\n1 sync\n1 sync\n";
+        let (_, text) = run(rt.alloc(), script, &mut disk)?;
+        assert_eq!(rt;
+            text.bytes(),
+            b"1 ok 257\n1 ok 2\n1 io\n1 ok sync\ndone 4\n".as_slice()
+        );
+        assert_eq!(rt; crashes(rt.alloc(), &disk)?, (0, 8, 0));
+    }
+    Ok(())
+}
+
+/// What a faulty script comes to on a disk all of whose calls fail: its exit status, and whether the text is this one.
+fn is_refused(alloc: Global, script: &[u8], text: &[u8]) -> Result<bool, Fail> {
+    let mut disk = made(alloc, 0)?;
+    let (status, told) = run(alloc, script, &mut disk)?;
+    Ok(status.code() == 2 && told.bytes() == text)
+}
+
+#[test]
+fn a_faulty_script_leaves_the_disk(rt: HostRuntime) -> Result<(), Fail> {
+    for (script, text) in [
+        ("1 create /a\n1 frob /a\n", "script 2 word\n"),
+        ("17 sync\n", "script 1 caller\n"),
+        ("1  sync\n", "script 1 word\n"),
+        ("1 start sync\n", "script 1 word\n"),
+        ("1 create /\\x2\n", "script 1 escape\n"),
+        ("\n1 create a\n", "script 2 path\n"),
+        ("1 write /a 18446744073709551616 x\n", "script 1 number\n"),
+    ] {
+        assert!(rt; is_refused(rt.alloc(), script.as_bytes(), text.as_bytes())?);
+    }
+    assert!(rt; is_refused(rt.alloc(), b"1 create /\xff\n", b"script 1 utf8\n")?);
+    Ok(())
+}
+
+/// The exit status of a run of `SYNCED`, and its text, where these reads of the source and these writes to the sink fail.
+fn at_the_edge(
+    alloc: Global,
+    reads: &[u64],
+    writes: &[u64],
+    calls: u64,
+) -> Result<(u8, MemorySink), Fail> {
+    let mut words = Vec::new(alloc);
+    words.push(String::from_str(alloc, "run")?)?;
+    let mut disk = made(alloc, calls)?;
+    let mut from = MemorySource::new(alloc, SYNCED, reads)?;
+    let mut to = MemorySink::new(alloc, writes)?;
+    let status = drive(alloc, &words, &mut from, &mut to, &mut disk);
+    Ok((status.code(), to))
+}
+
+#[test]
+fn each_edge_has_its_fault(rt: HostRuntime) -> Result<(), Fail> {
+    let (status, text) = at_the_edge(rt.alloc(), &[2], &[], 0)?;
+    assert_eq!(rt; status, 5);
+    assert_eq!(rt; text.bytes(), b"read\n".as_slice());
+    let (status, _) = at_the_edge(rt.alloc(), &[], &[], 0)?;
+    assert_eq!(rt; status, 4);
+    let (status, text) = at_the_edge(rt.alloc(), &[], &[1], ALL)?;
+    assert_eq!(rt; status, 6);
+    assert_eq!(rt; text.bytes(), b"".as_slice());
+    Ok(())
+}

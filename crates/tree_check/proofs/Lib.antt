@@ -1,0 +1,12 @@
+pub mod Places
+pub mod ItemSteps
+pub mod RunSteps
+pub mod Checking
+pub mod Reading
+pub mod Marking
+pub mod Passing
+pub mod Apart
+pub mod Fresh
+pub mod First
+pub mod Each
+pub mod Short
