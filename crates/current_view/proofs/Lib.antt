@@ -1,0 +1,7 @@
+mod Between
+mod Results
+mod Steps
+mod Once
+mod Indexed
+mod Refs
+mod Hashed
