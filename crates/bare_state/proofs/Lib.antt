@@ -1,0 +1,2 @@
+mod Leaf
+mod New
