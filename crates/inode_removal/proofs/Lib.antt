@@ -1,0 +1,4 @@
+mod Counting
+mod OwnItems
+mod Few
+mod Gone
