@@ -1,18 +1,26 @@
-//! Operations on names in the tree of a subvolume: `lookup`, `create`, `mkdir`, `symlink` and `link`. A walk and a few more searches
-//! decide which refusal comes first; where none does, the subvolume is edited copy on write. No call takes memory.
+//! Operations on names in the tree of a subvolume: `lookup`, `create`, `mkdir`, `symlink`, `link`, `unlink`, `rmdir` and
+//! `exchange`. A walk and a few more searches decide which refusal comes first; where none does, the subvolume is edited copy on
+//! write. No call takes memory.
 //!
 //! `IsOperated` of `table_volume` says what each comes to: the answer and the next subvolume of the definition of operations, in an
-//! edit of this subvolume alone that takes at most 512 blocks and buffers.
+//! edit of this subvolume alone that takes at most 512 blocks and buffers, and 2 for each data block, inline extent and attribute item
+//! that it removes.
 #![tactic(auto)]
 
 mod deciding;
 mod editing;
+mod exchanging;
 mod finding;
+mod keeping;
 mod linking;
 mod making;
+mod places;
 mod refusing;
+mod removing;
 mod sums;
 
+pub use exchanging::exchange;
 pub use finding::lookup;
 pub use linking::link;
 pub use making::{create, mkdir, symlink};
+pub use removing::{rmdir, unlink};

@@ -58,7 +58,7 @@ fn is_absent_or_dirless(one: &End<'_>, two: &End<'_>) -> bool
 }
 
 /// Whether one of two walks met what is no directory.
-fn is_either_blocked(one: &End<'_>, two: &End<'_>) -> bool
+pub(crate) fn is_either_blocked(one: &End<'_>, two: &End<'_>) -> bool
     ensures { result ≡ (is_blocked (end_view one.now) || is_blocked (end_view two.now)) }
 {
     one.is_blocked() || two.is_blocked()
@@ -121,4 +121,23 @@ pub(crate) fn make_refusal(sub: &SubState, end: &End<'_>) -> Option<Answer>
         return Some(Answer::TooLarge);
     }
     None
+}
+
+/// Whether a file or symlink is there.
+pub(crate) fn is_other_there(table: &BlockTable, sub: &SubState, end: &End<'_>) -> bool
+    requires { (run : RunSub) × GivesRun table.now sub.now run }
+    ensures { (run : RunSub) → GivesRun table.now sub.now run → result ≡ is_other_there (record_at run.sub (end_view end.now)) }
+{
+    match end {
+        End::Root => false,
+        End::Free { .. } => false,
+        End::Taken { held, .. } => match record_kind(table, &sub.tree, held.ino) {
+            Some(Kind::Dir) => false,
+            Some(Kind::File) => true,
+            Some(Kind::Link) => true,
+            None => false,
+        },
+        End::Missing => false,
+        End::Blocked => false,
+    }
 }
