@@ -18,7 +18,7 @@ use item_extent::Extent;
 use tree_range::range;
 
 /// The key of an extent that begins at a block of a file ("EXTENT_DATA").
-fn extent_key(ino: Ino, number: u64) -> Key
+pub fn extent_key(ino: Ino, number: u64) -> Key
     requires { number < 2 ^ 52 }
     ensures { result ≡ make_key ino.0 extent_data (4096 * number) }
 {
@@ -85,7 +85,7 @@ fn last_begin(table: &BlockTable, tree: &Tree, ino: Ino, number: u64) -> u64
 }
 
 /// The last extent of a file that begins at a block or in front of it.
-fn last_extent<'t>(
+pub fn last_extent<'t>(
     table: &'t BlockTable,
     tree: &Tree,
     ino: Ino,

@@ -10,5 +10,5 @@ mod reading;
 #[cfg(test)]
 mod tests;
 
-pub use extents::file_block;
+pub use extents::{extent_key, file_block, last_extent};
 pub use reading::read;
