@@ -24,7 +24,7 @@ use Rattle.name_ops.specs.Drops.{MayDrop, gone_with_name, most_dropped}
 use Rattle.name_ops.proofs.Adding.{dir_there}
 use Rattle.name_ops.proofs.Stages.{makes_joined, makes_more, room_left}
 
-few_links : (inode : InodeRecord) (count : ℕ) → IsLinkCount inode count → count ≤ most_links
+pub few_links : (inode : InodeRecord) (count : ℕ) → IsLinkCount inode count → count ≤ most_links
 few_links (FileInode file) count is = is.1
 few_links (DirInode dir) count is = omega (arith, is)
 few_links (LinkInode link) count is = is.1

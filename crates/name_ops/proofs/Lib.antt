@@ -10,3 +10,4 @@ pub mod Made
 pub mod Totals
 pub mod Dropping
 pub mod Removed
+pub mod Moved

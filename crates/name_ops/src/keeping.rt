@@ -7,22 +7,31 @@ ghost use Rattle.table_volume.specs.Running.{GivesRun};
 ghost use Rattle.name_walk.specs.Ends.{end_view};
 
 use crate::refusing::{is_dir_there, is_other_there};
+use blk_base::format::FIRST_FREE;
 use block_table::{BlockTable, SubState};
 use flat_model::Answer;
 use name_walk::{End, has_entries};
+
+/// Whether a directory with names is there.
+pub(crate) fn has_entries_there(table: &BlockTable, sub: &SubState, end: &End<'_>) -> bool
+    requires { (run : RunSub) × GivesRun table.now sub.now run }
+    ensures { (run : RunSub) → GivesRun table.now sub.now run → result ≡ has_entries run.sub (ino_at (end_view end.now)) }
+{
+    match end {
+        End::Root => has_entries(table, &sub.tree, FIRST_FREE),
+        End::Free { .. } => false,
+        End::Taken { held, .. } => has_entries(table, &sub.tree, held.ino),
+        End::Missing => false,
+        End::Blocked => false,
+    }
+}
 
 /// Whether a directory with names is there that isn't the root directory.
 fn is_full_there(table: &BlockTable, sub: &SubState, end: &End<'_>) -> bool
     requires { (run : RunSub) × GivesRun table.now sub.now run }
     ensures { (run : RunSub) → GivesRun table.now sub.now run → result ≡ (not (is_root (end_view end.now)) && has_entries run.sub (ino_at (end_view end.now))) }
 {
-    match end {
-        End::Root => false,
-        End::Free { .. } => false,
-        End::Taken { held, .. } => has_entries(table, &sub.tree, held.ino),
-        End::Missing => false,
-        End::Blocked => false,
-    }
+    !end.is_root() && has_entries_there(table, sub, end)
 }
 
 /// The first refusal of an unlink.

@@ -1,4 +1,4 @@
-//! Operations on names in the tree of a subvolume: `lookup`, `create`, `mkdir`, `symlink`, `link`, `unlink`, `rmdir` and
+//! Operations on names in the tree of a subvolume: `lookup`, `create`, `mkdir`, `symlink`, `link`, `unlink`, `rmdir`, `rename` and
 //! `exchange`. A walk and a few more searches decide which refusal comes first; where none does, the subvolume is edited copy on
 //! write. No call takes memory.
 //!
@@ -17,6 +17,7 @@ mod making;
 mod places;
 mod refusing;
 mod removing;
+mod renaming;
 mod sums;
 
 pub use exchanging::exchange;
@@ -24,3 +25,4 @@ pub use finding::lookup;
 pub use linking::link;
 pub use making::{create, mkdir, symlink};
 pub use removing::{rmdir, unlink};
+pub use renaming::rename;

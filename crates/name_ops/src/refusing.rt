@@ -51,7 +51,7 @@ pub(crate) fn is_dir_there(table: &BlockTable, sub: &SubState, end: &End<'_>) ->
 }
 
 /// Whether one place isn't there, or the other has no directory.
-fn is_absent_or_dirless(one: &End<'_>, two: &End<'_>) -> bool
+pub(crate) fn is_absent_or_dirless(one: &End<'_>, two: &End<'_>) -> bool
     ensures { result ≡ (is_absent (end_view one.now) || is_dirless (end_view two.now)) }
 {
     one.is_absent() || two.is_dirless()
