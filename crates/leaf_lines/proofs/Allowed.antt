@@ -1,8 +1,9 @@
 -- The operations that a script's lines ask for are in their limits.
-use Rattle.std.proofs.Common.{◌≡◌, inl, inr, ℕ, List, [], ◌∷◌, Ok, sym, subst}
+use Rattle.std.proofs.Common.{◌≡◌, ◌≤◌, inl, inr, ℕ, List, [], ◌∷◌, length, replicate, Ok, ap, sym, ◌∙◌, subst, arith}
+use Rattle.std.proofs.lemmas.List.{length-replicate}
 use Rattle.std.proofs.lemmas.List.Elements.{All-cons, All-nil}
 use Rattle.flat_model.specs.declared.op.Op.{Op}
-use Rattle.flat_model.specs.declared.op.Op.TheVariants.{Create, Write}
+use Rattle.flat_model.specs.declared.op.Op.TheVariants.{Create, Mkdir, Symlink, Link, Unlink, Rmdir, Rename, Exchange, Lookup, Write, Truncate, Read, SetAttr, DelAttr, GetAttr}
 use Rattle.flat_model.specs.Step.{IsInLimits}
 use Rattle.flat_model.specs.declared.request.Line.{Line}
 use Rattle.flat_model.specs.declared.request.Line.TheVariants.{Plain}
@@ -14,11 +15,29 @@ use Rattle.script_text.proofs.ScriptLaw.{script_both}
 use Rattle.leaf_run.specs.Run.{IsAllowedRequest}
 use Rattle.leaf_lines.specs.Lines.{AreAllowed, IsAllowedLine}
 
--- a write's text has 1 to 65,536 bytes, and the grammar has no other operation with a limit
+-- so many equal bytes as a fill may write
+filled : (count byte : ℕ) (text : List ℕ) → text ≡ replicate count byte → 1 ≤ count → count ≤ 65536 → (1 ≤ length text) × (length text ≤ 65536)
+filled count byte text same least most =
+    let n : length text ≡ count = ap length same ∙ length-replicate count byte in
+    (omega (arith, n, least), omega (arith, n, most))
+
 in_limits : (words : List (List ℕ)) (op : Op) → AreOp words op → IsInLimits op
+in_limits words (Symlink place target) are = (are.target_is.least, are.target_is.at_most)
+in_limits words (Write place offset text) (inl are) = (are.text_is.least, are.text_is.at_most)
+in_limits words (Write place offset text) (inr are) = filled are.count are.byte text are.text_is are.count_is.at_least are.count_is.at_most
+in_limits words (SetAttr place name value) are = are.value_is.least
 in_limits words (Create place) are = tt
-in_limits words (Write place offset text) (path, at, content, same, is_path, is_number, is_content) = (is_content.least, is_content.most)
-in_limits words other are = absurd are
+in_limits words (Mkdir place) are = tt
+in_limits words (Link old new) are = tt
+in_limits words (Unlink place) are = tt
+in_limits words (Rmdir place) are = tt
+in_limits words (Rename old new) are = tt
+in_limits words (Exchange one two) are = tt
+in_limits words (Lookup place) are = tt
+in_limits words (Truncate place size) are = tt
+in_limits words (Read place offset count) are = tt
+in_limits words (DelAttr place name) are = tt
+in_limits words (GetAttr place name) are = tt
 
 allowed_request : (words : List (List ℕ)) (request : Request) → AreRequest words request → IsAllowedRequest request
 allowed_request words (requests.Op op) are = in_limits words op are

@@ -26,7 +26,23 @@ const GOOD: &[u8] = b"1 sync
 1 create /\\x61\\\\\\xff
 1 create /a:b
 1 write /a 0 x
-1 write /a 18446744073709551615 \\x00";
+1 write /a 18446744073709551615 \\x00
+1 mkdir /d
+1 symlink /s t
+1 link /a 256:/b
+1 unlink /a
+1 rmdir /d
+1 rename /a /b
+1 exchange /a /b
+1 lookup /
+1 fill /a 0 65536 255
+1 fill /a 18446744073709551615 1 0
+1 truncate /a 18446744073709551615
+1 read /a 0 0
+1 read /a 7 65536
+1 setattr /a user.k v
+1 delattr /a user.k
+1 getattr /a \\x61";
 
 /// Scripts of one line whose caller is none.
 const NO_CALLER: &[u8] = b"17 sync
@@ -48,13 +64,31 @@ const NO_REQUEST: &[u8] = b"1
 1 create
 1 create /a /b
 1 write /a\\ 0
-1 write /a\\ 0 x y";
+1 write /a\\ 0 x y
+1 Mkdir /d
+1 mkdir
+1 link /a
+1 rename /a /b /c
+1 fill /a 0 1
+1 read /a\\ 0
+1 truncate /a
+1 symlink /s
+1 setattr /a user.k
+1 getattr /a
+1 fsync /a
+1 fdatasync /a";
 
 /// Scripts of one line with a word that should be a number.
 const NO_NUMBER: &[u8] = b"1 write /a 00 x
 1 write /a -1 x
 1 write /a 18446744073709551616 x
-1 write /a \\x30 x";
+1 write /a \\x30 x
+1 fill /a x 0 256
+1 fill /a 0 0 1
+1 fill /a 0 65537 1
+1 fill /a 0 1 256
+1 read /a 0 65537
+1 truncate /a 1e3";
 
 /// Scripts of one line with a word that should be a path.
 const NO_PATH: &[u8] = b"1 write a 0 x
@@ -67,7 +101,13 @@ const NO_PATH: &[u8] = b"1 write a 0 x
 1 create \\x36:/a
 1 create 06:/a
 1 create 256:
-1 create 256/a";
+1 create 256/a
+1 mkdir d
+1 link /a b
+1 rename a /b\\q
+1 setattr /a . v
+1 delattr /a \\x00
+1 getattr /a a/b";
 
 /// Scripts of one line with a backslash out of its forms.
 const NO_ESCAPE: &[u8] = b"1 write /a\\ 0 x
@@ -75,7 +115,11 @@ const NO_ESCAPE: &[u8] = b"1 write /a\\ 0 x
 1 write /\\xFF 0 x
 1 write a\\/b 0 x
 1 write //\\q 0 x
-1 write /a 0 \\";
+1 write /a 0 \\
+1 symlink /s \\x0
+1 exchange /a /b\\q
+1 setattr /a k\\ v
+1 setattr /a k \\y";
 
 /// Whether each of the lines, taken as a script of its own, gives this.
 fn all_give(alloc: Global, lines: &[u8], want: Given) -> Result<bool, Fail> {

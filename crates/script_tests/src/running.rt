@@ -104,11 +104,64 @@ const TWELVE_TEXT: &str = "1 ok 257
 done 15
 ";
 
+/// Other verbs, on files that fit a leaf.
+const VERBS: &[u8] = b"1 create /a
+1 write /a 0 hi
+2 read /a 0 9
+2 read /a 1 0
+1 rename /a /b
+1 lookup /b
+1 fill /b 1 3 120
+1 read /b 0 9
+1 truncate /b 2
+1 mkdir /d
+1 setattr /b user.k v
+1 getattr /b user.k
+1 symlink /b t
+1 link /b 256:/c
+1 exchange / /b
+1 rmdir /b
+1 create /c
+1 unlink /c
+1 lookup /c
+1 delattr /c user.k
+1 sync
+";
+
+/// The text of `VERBS`.
+const VERBS_TEXT: &str = "1 ok 257
+1 ok 2
+2 ok hi
+2 ok
+1 ok
+1 ok 257
+1 ok 3
+1 ok hxxx
+1 ok
+1 oneleaf
+1 oneleaf
+1 noattr
+1 exists
+1 xdev
+1 loop
+1 notdir
+1 ok 258
+1 ok
+1 noent
+1 noent
+1 ok sync
+done 21
+";
+
+/// The listing of the volume that `VERBS` leaves; the sum is that of the bytes `hx`.
+const VERBS_LEFT: &[u8] = b"sub 5\n256 dir 1 2 - /\n257 file 1 2 17a89dae /b\ndone 2\n";
+
 #[test]
 fn a_script_has_its_text_and_its_volume(rt: HostRuntime) -> Result<(), Fail> {
     let rows = [
         (SYNCED, "1 ok 257\n1 ok 2\n1 ok sync\ndone 3\n", WRITTEN),
         (b"".as_slice(), "done 0\n", EMPTY),
+        (VERBS, VERBS_TEXT, VERBS_LEFT),
         (
             b"# a file\n\n16 create /a".as_slice(),
             "16 ok 257\ndone 1\n",

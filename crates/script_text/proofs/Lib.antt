@@ -5,5 +5,7 @@ pub mod NumberLaw
 pub mod PartsLaw
 pub mod TextLaw
 pub mod PathLaw
+pub mod ArgumentLaw
 pub mod RequestLaw
+pub mod LineLaw
 pub mod ScriptLaw

@@ -11,10 +11,8 @@ use Rattle.script_text.specs.declared.fault.LineFault.{LineFault}
 use Rattle.script_text.specs.declared.fault.LineFault.TheVariants as line_faults
 use Rattle.flat_model.specs.declared.request.Line.{Line}
 use Rattle.script_text.specs.Kinds.{◌>>=◌, Fails, IsFaultOf, fault_at}
-use Rattle.flat_model.specs.declared.place.Place.{Place}
-use Rattle.script_text.specs.Words.{number_word}
-use Rattle.script_text.specs.Paths.{name_of, all_names, place_of}
-use Rattle.script_text.specs.Script.{write_of, line_of, lines_of, script_behind, script_with, script_from, script_of}
+use Rattle.script_text.specs.Paths.{name_of, all_names}
+use Rattle.script_text.specs.Script.{line_of, lines_of, script_behind, script_with, script_from, script_of}
 use Rattle.script_text.specs.Parts.{bytes_of}
 use Rattle.script_text.proofs.PartLemmas.{part_at, parts_past, lines_of-cut}
 
@@ -120,17 +118,3 @@ is_some_byte bytes other = grind (arith, nat_tests)
 
 pub is_no_byte : (bytes : List ℕ) → eqb (length bytes) 0 ≡ true → length bytes ≡ 0
 is_no_byte bytes none = grind (arith, nat_tests)
-
--- ---- a write whose offset is no number
-
-stops_at_offset : (fault : LineFault) (path offset text : List ℕ) (place : Place) → place_of path ≡ Ok place → Fails fault (number_word offset) → Fails fault (write_of (path ∷ offset ∷ text ∷ []))
-unfolding write_of
-stops_at_offset line_faults.OutOfMemory path offset text place is fails = tt
-stops_at_offset (line_faults.Kind kind) path offset text place is fails = rw (is, fails) refl
-
-pub offset_stops : (fault : LineFault) (words : List (Bor (List ℕ))) (d e : Bor (List ℕ)) (place : Place) → 3 ≤ length words → length words < 4 → place_of (get_or words 0 d).now ≡ Ok place → Fails fault (number_word (get_or words 1 e).now) → Fails fault (write_of (bytes_of words))
-offset_stops fault [] d e place least most is fails = absurd (omega (arith, least))
-offset_stops fault (path ∷ []) d e place least most is fails = absurd (omega (arith, least))
-offset_stops fault (path ∷ offset ∷ []) d e place least most is fails = absurd (omega (arith, least))
-offset_stops fault (path ∷ offset ∷ text ∷ []) d e place least most is fails = stops_at_offset fault path.now offset.now text.now place is fails
-offset_stops fault (path ∷ offset ∷ text ∷ other ∷ words) d e place least most is fails = absurd (omega (arith, most))

@@ -13,8 +13,8 @@ use Rattle.script_text.specs.declared.fault.ScriptKind.{ScriptKind}
 use Rattle.script_text.specs.declared.fault.ScriptKind.TheVariants.{Path}
 use Rattle.script_text.specs.Kinds.{◌>>=◌}
 use Rattle.script_text.specs.Words.{parts_at, number_of, text_of}
-use Rattle.script_text.specs.Paths.{content_of, other_sub, sub_of, name_of, all_names, is_root, names_of, place_from, place_of}
-use Rattle.script_text.specs.Grammar.{IsWithout, IsDigit, IsNumber, IsHexDigit, IsUnit, Spells, IsContent, IsFront, SpellNames, ArePieces, IsPath}
+use Rattle.script_text.specs.Paths.{text_up_to, other_sub, sub_of, name_of, all_names, is_root, names_of, place_from, place_of}
+use Rattle.script_text.specs.Grammar.{IsWithout, IsDigit, IsNumber, IsHexDigit, IsUnit, Spells, IsText, IsFront, SpellNames, ArePieces, IsPath}
 use Rattle.script_text.proofs.WordLemmas.{drop-past, name_is}
 use Rattle.script_text.proofs.NumberLaw.{both, both_from, is_other, is_not, is_it, number_to, number_from}
 use Rattle.script_text.proofs.PartsLaw.{bool_is, without_append, parts_join}
@@ -42,25 +42,25 @@ at_most n m e = grind (arith, nat_tests)
 pub at_most_passes : (n m : ℕ) → n ≤ m → leb n m ≡ true
 at_most_passes n m le = grind (arith, nat_tests)
 
--- ---- contents
+-- ---- texts
 
-pub content_to : (word text : List ℕ) → content_of word ≡ Ok text → IsContent word text
-unfolding content_of
-content_to word text e =
-    let p = bind_ok (text_of word) (λ t. cond (leb 1 (length t) && leb (length t) 65536) (Ok t) (Err Path)) text e in
-    let q = cond_ok (leb 1 (length p.0) && leb (length p.0) 65536) (Ok p.0) Path text p.2 in
-    let b = both (leb 1 (length p.0)) (leb (length p.0) 65536) q.0 in
-    subst (λ (t : List ℕ). IsContent word t) (ok_is p.0 text q.1) (record { spelled = text_to word p.0 p.1; least = at_most 1 (length p.0) b.0; most = at_most (length p.0) 65536 b.1 })
+pub text_in_to : (most : ℕ) (word text : List ℕ) → text_up_to most word ≡ Ok text → IsText most word text
+unfolding text_up_to
+text_in_to most word text e =
+    let p = bind_ok (text_of word) (λ t. cond (leb 1 (length t) && leb (length t) most) (Ok t) (Err Path)) text e in
+    let q = cond_ok (leb 1 (length p.0) && leb (length p.0) most) (Ok p.0) Path text p.2 in
+    let b = both (leb 1 (length p.0)) (leb (length p.0) most) q.0 in
+    subst (λ (t : List ℕ). IsText most word t) (ok_is p.0 text q.1) (record { spelled = text_to word p.0 p.1; least = at_most 1 (length p.0) b.0; at_most = at_most (length p.0) most b.1 })
 
-pub content_back : (word text : List ℕ) → IsContent word text → content_of word ≡ Ok text
-unfolding content_of
-content_back word text c =
-    ap (λ (r : Result (List ℕ) ScriptKind). r >>= λ t. cond (leb 1 (length t) && leb (length t) 65536) (Ok t) (Err Path)) (text_back word text c.spelled)
-    ∙ ap (λ (b : Bool). cond b (Ok text) (Err Path)) (both_from (leb 1 (length text)) (leb (length text) 65536) (at_most_passes 1 (length text) c.least) (at_most_passes (length text) 65536 c.most))
+pub text_in_back : (most : ℕ) (word text : List ℕ) → IsText most word text → text_up_to most word ≡ Ok text
+unfolding text_up_to
+text_in_back most word text c =
+    ap (λ (r : Result (List ℕ) ScriptKind). r >>= λ t. cond (leb 1 (length t) && leb (length t) most) (Ok t) (Err Path)) (text_back word text c.spelled)
+    ∙ ap (λ (b : Bool). cond b (Ok text) (Err Path)) (both_from (leb 1 (length text)) (leb (length text) most) (at_most_passes 1 (length text) c.least) (at_most_passes (length text) most c.at_most))
 
 -- ---- names
 
-name_to : (piece name : List ℕ) → name_of piece ≡ Ok name → Spells piece name × IsName name
+pub name_to : (piece name : List ℕ) → name_of piece ≡ Ok name → Spells piece name × IsName name
 unfolding name_of
 name_to piece name e =
     let p = bind_ok (text_of piece) (λ n. cond (is_name n) (Ok n) (Err Path)) name e in

@@ -11,7 +11,7 @@ use Rattle.script_text.specs.Grammar.{IsWithout, Speak, ended, IsScript}
 use Rattle.script_text.proofs.NumberLaw.{is_it}
 use Rattle.script_text.proofs.PartsLaw.{bool_is, parts_cons, parts_without}
 use Rattle.script_text.proofs.LineLemmas.{line_is_in_range}
-use Rattle.script_text.proofs.RequestLaw.{Says, line_to, line_back, silent_back}
+use Rattle.script_text.proofs.LineLaw.{Says, line_to, line_back, silent_back}
 
 -- ---- the lines that do something
 

@@ -1,11 +1,11 @@
 -- The grammar of scripts as a relation between bytes and lines. Bytes stand as their codes: 10 for LF, 32 a space, 35 `#`, 47 `/`,
 -- 48 `0`, 58 `:`, 92 a backslash, 97 `a`, 120 `x`.
-use Rattle.std.specs.Prelude.{◌≡◌, ◌≢◌, ◌<◌, ◌≤◌, ◌+◌, ◌-◌, ◌*◌, ◌^◌, ◌⊎◌, ℕ, List, [], ◌∷◌, ◌++◌, length, slice_index, codes}
+use Rattle.std.specs.Prelude.{◌≡◌, ◌≢◌, ◌<◌, ◌≤◌, ◌+◌, ◌-◌, ◌*◌, ◌^◌, ◌⊎◌, ℕ, List, [], ◌∷◌, ◌++◌, length, slice_index, codes, replicate}
 use Rattle.std.specs.List.{AllByRecursion, flat_map, join_with_byte}
 use Rattle.std.specs.Str.{IsUtf8}
 use Rattle.blk_base.specs.Name.{IsName}
 use Rattle.flat_model.specs.declared.op.Op.{Op}
-use Rattle.flat_model.specs.declared.op.Op.TheVariants.{Create, Write}
+use Rattle.flat_model.specs.declared.op.Op.TheVariants.{Create, Mkdir, Symlink, Link, Unlink, Rmdir, Rename, Exchange, Lookup, Write, Truncate, Read, SetAttr, DelAttr, GetAttr}
 use Rattle.flat_model.specs.declared.place.Place.{Place}
 use Rattle.flat_model.specs.declared.request.Line.{Line}
 use Rattle.flat_model.specs.declared.request.Line.TheVariants.{Plain}
@@ -35,6 +35,12 @@ pub record IsNumber (word : List ℕ) (value : ℕ) : Type 0 where
   pub value_is : value_behind 0 word ≡ value
   pub most : value < 2 ^ 64
 
+-- the word is this number, between two others, both included
+pub record IsNumberIn (least most : ℕ) (word : List ℕ) (value : ℕ) : Type 0 where
+  pub number : IsNumber word value
+  pub at_least : least ≤ value
+  pub at_most : value ≤ most
+
 -- ---- texts
 
 -- a hexadecimal digit in lower case, and its number
@@ -61,11 +67,11 @@ abbrev pub Spells : List ℕ → List ℕ → Type 0
 Spells word [] = word ≡ []
 Spells word (byte ∷ text) = (unit : List ℕ) × (rest : List ℕ) × (word ≡ unit ++ rest) × IsUnit unit byte × Spells rest text
 
--- the word spells a text of 1 to 65,536 bytes
-pub record IsContent (word text : List ℕ) : Type 0 where
+-- the word spells a text of 1 to so many bytes
+pub record IsText (most : ℕ) (word text : List ℕ) : Type 0 where
   pub spelled : Spells word text
   pub least : 1 ≤ length text
-  pub most : length text ≤ 65536
+  pub at_most : length text ≤ most
 
 -- ---- paths
 
@@ -94,13 +100,113 @@ pub record IsPath (word : List ℕ) (place : Place) : Type 0 where
 
 -- ---- lines
 
--- the words are this request: `create PATH`, `write PATH OFFSET TEXT` or `sync`
-abbrev pub AreOp : List (List ℕ) → Op → Type 0
-AreOp words (Create place) = (path : List ℕ) × (words ≡ codes "create" ∷ path ∷ []) × IsPath path place
-AreOp words (Write place offset text) =
-    (path : List ℕ) × (at : List ℕ) × (content : List ℕ) × (words ≡ codes "write" ∷ path ∷ at ∷ content ∷ []) × IsPath path place × IsNumber at offset × IsContent content text
-AreOp words other = ⊥
+-- the word is a name that stands by itself
+pub record IsNameWord (word name : List ℕ) : Type 0 where
+  pub spelled : Spells word name
+  pub name_is : IsName name
 
+-- a verb and a path
+pub record ArePath (verb : List ℕ) (words : List (List ℕ)) (place : Place) : Type 0 where
+  pub path : List ℕ
+  pub words_are : words ≡ verb ∷ path ∷ []
+  pub path_is : IsPath path place
+
+-- a verb and two paths
+pub record ArePaths (verb : List ℕ) (words : List (List ℕ)) (one two : Place) : Type 0 where
+  pub first : List ℕ
+  pub second : List ℕ
+  pub words_are : words ≡ verb ∷ first ∷ second ∷ []
+  pub first_is : IsPath first one
+  pub second_is : IsPath second two
+
+-- a verb, a path and a name
+pub record ArePathAndName (verb : List ℕ) (words : List (List ℕ)) (place : Place) (name : List ℕ) : Type 0 where
+  pub path : List ℕ
+  pub word : List ℕ
+  pub words_are : words ≡ verb ∷ path ∷ word ∷ []
+  pub path_is : IsPath path place
+  pub name_is : IsNameWord word name
+
+-- `symlink PATH TARGET`
+pub record AreSymlink (words : List (List ℕ)) (place : Place) (target : List ℕ) : Type 0 where
+  pub path : List ℕ
+  pub word : List ℕ
+  pub words_are : words ≡ codes "symlink" ∷ path ∷ word ∷ []
+  pub path_is : IsPath path place
+  pub target_is : IsText 1023 word target
+
+-- `write PATH OFFSET TEXT`
+pub record AreWrite (words : List (List ℕ)) (place : Place) (offset : ℕ) (text : List ℕ) : Type 0 where
+  pub path : List ℕ
+  pub at : List ℕ
+  pub word : List ℕ
+  pub words_are : words ≡ codes "write" ∷ path ∷ at ∷ word ∷ []
+  pub path_is : IsPath path place
+  pub offset_is : IsNumber at offset
+  pub text_is : IsText 65536 word text
+
+-- `fill PATH OFFSET COUNT BYTE`
+pub record AreFill (words : List (List ℕ)) (place : Place) (offset : ℕ) (text : List ℕ) : Type 0 where
+  pub path : List ℕ
+  pub at : List ℕ
+  pub many : List ℕ
+  pub value : List ℕ
+  pub count : ℕ
+  pub byte : ℕ
+  pub words_are : words ≡ codes "fill" ∷ path ∷ at ∷ many ∷ value ∷ []
+  pub path_is : IsPath path place
+  pub offset_is : IsNumber at offset
+  pub count_is : IsNumberIn 1 65536 many count
+  pub byte_is : IsNumberIn 0 255 value byte
+  pub text_is : text ≡ replicate count byte
+
+-- `truncate PATH SIZE`
+pub record AreTruncate (words : List (List ℕ)) (place : Place) (size : ℕ) : Type 0 where
+  pub path : List ℕ
+  pub word : List ℕ
+  pub words_are : words ≡ codes "truncate" ∷ path ∷ word ∷ []
+  pub path_is : IsPath path place
+  pub size_is : IsNumber word size
+
+-- `read PATH OFFSET COUNT`
+pub record AreRead (words : List (List ℕ)) (place : Place) (offset count : ℕ) : Type 0 where
+  pub path : List ℕ
+  pub at : List ℕ
+  pub many : List ℕ
+  pub words_are : words ≡ codes "read" ∷ path ∷ at ∷ many ∷ []
+  pub path_is : IsPath path place
+  pub offset_is : IsNumber at offset
+  pub count_is : IsNumberIn 0 65536 many count
+
+-- `setattr PATH NAME VALUE`
+pub record AreSetAttr (words : List (List ℕ)) (place : Place) (name value : List ℕ) : Type 0 where
+  pub path : List ℕ
+  pub word : List ℕ
+  pub text : List ℕ
+  pub words_are : words ≡ codes "setattr" ∷ path ∷ word ∷ text ∷ []
+  pub path_is : IsPath path place
+  pub name_is : IsNameWord word name
+  pub value_is : IsText 4096 text value
+
+-- the words are this operation: a verb and its arguments
+abbrev pub AreOp : List (List ℕ) → Op → Type 0
+AreOp words (Create place) = ArePath (codes "create") words place
+AreOp words (Mkdir place) = ArePath (codes "mkdir") words place
+AreOp words (Symlink place target) = AreSymlink words place target
+AreOp words (Link old new) = ArePaths (codes "link") words old new
+AreOp words (Unlink place) = ArePath (codes "unlink") words place
+AreOp words (Rmdir place) = ArePath (codes "rmdir") words place
+AreOp words (Rename old new) = ArePaths (codes "rename") words old new
+AreOp words (Exchange one two) = ArePaths (codes "exchange") words one two
+AreOp words (Lookup place) = ArePath (codes "lookup") words place
+AreOp words (Write place offset text) = AreWrite words place offset text ⊎ AreFill words place offset text
+AreOp words (Truncate place size) = AreTruncate words place size
+AreOp words (Read place offset count) = AreRead words place offset count
+AreOp words (SetAttr place name value) = AreSetAttr words place name value
+AreOp words (DelAttr place name) = ArePathAndName (codes "delattr") words place name
+AreOp words (GetAttr place name) = ArePathAndName (codes "getattr") words place name
+
+-- the words are this request: an operation, or `sync`
 abbrev pub AreRequest : List (List ℕ) → Request → Type 0
 AreRequest words (requests.Op op) = AreOp words op
 AreRequest words requests.Sync = words ≡ codes "sync" ∷ []

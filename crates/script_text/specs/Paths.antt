@@ -7,11 +7,11 @@ use Rattle.script_text.specs.declared.fault.ScriptKind.TheVariants.{Path}
 use Rattle.script_text.specs.Kinds.{◌>>=◌}
 use Rattle.script_text.specs.Words.{parts_at, number_of, text_of}
 
--- the text that the word spells, of 1 to 65,536 bytes (own limit)
-unfoldable pub content_of : List ℕ → Result (List ℕ) ScriptKind
-content_of word = do
+-- the text that the word spells, of 1 to so many bytes (own)
+unfoldable pub text_up_to : ℕ → List ℕ → Result (List ℕ) ScriptKind
+text_up_to most word = do
   text ← text_of word
-  if nat_le 1 (length text) && nat_le (length text) 65536 then Ok text else Err Path
+  if nat_le 1 (length text) && nat_le (length text) most then Ok text else Err Path
 
 -- the subvolume of a number that stands in front of a path: 5 has none
 abbrev pub other_sub : Option ℕ → Result ℕ ScriptKind

@@ -1,55 +1,15 @@
 -- Scripts: the lines of a script, or its first fault.
-use Rattle.std.specs.Prelude.{ℕ, ◌+◌, Bool, ◌&&◌, ◌||◌, not, nat_le, nat_lt, ◌==◌, if◌then◌else◌, List, [], ◌∷◌, length, slice_index, codes, Option, Some, None, Result, Ok, Err, bytes_eq}
+use Rattle.std.specs.Prelude.{ℕ, ◌+◌, Bool, ◌&&◌, ◌||◌, not, nat_le, nat_lt, ◌==◌, if◌then◌else◌, List, [], ◌∷◌, length, slice_index, Option, Some, None, Result, Ok, Err}
 use Rattle.std.specs.List.{list_any}
 use Rattle.std.specs.Str.{is_utf8}
-use Rattle.flat_model.specs.declared.op.Op.TheVariants.{Create, Write}
 use Rattle.script_text.specs.declared.fault.ScriptKind.{ScriptKind}
 use Rattle.script_text.specs.declared.fault.ScriptKind.TheVariants.{Lines, Utf8, Caller, Word}
-use Rattle.script_text.specs.declared.request.Verb.{Verb}
-use Rattle.script_text.specs.declared.request.Verb.TheVariants as verbs
 use Rattle.flat_model.specs.declared.request.Line.{Line}
 use Rattle.flat_model.specs.declared.request.Line.TheVariants.{Plain}
 use Rattle.flat_model.specs.declared.request.Request.{Request}
-use Rattle.flat_model.specs.declared.request.Request.TheVariants as requests
 use Rattle.script_text.specs.Kinds.{◌>>=◌}
-use Rattle.script_text.specs.Words.{parts_at, number_of, number_word}
-use Rattle.script_text.specs.Paths.{place_of, content_of}
-
--- ---- requests
-
--- the verb that the word is (own)
-unfoldable pub verb_of : List ℕ → Result Verb ScriptKind
-verb_of word =
-    if bytes_eq word (codes "create") then Ok verbs.Create else
-    if bytes_eq word (codes "write") then Ok verbs.Write else
-    if bytes_eq word (codes "sync") then Ok verbs.Sync else Err Word
-
--- `create PATH` (own)
-unfoldable pub create_of : List (List ℕ) → Result Request ScriptKind
-create_of (path ∷ []) = do
-  place ← place_of path
-  Ok (requests.Op (Create place))
-create_of arguments = Err Word
-
--- `write PATH OFFSET TEXT` (own)
-unfoldable pub write_of : List (List ℕ) → Result Request ScriptKind
-write_of (path ∷ offset ∷ text ∷ []) = do
-  place ← place_of path
-  at ← number_word offset
-  content ← content_of text
-  Ok (requests.Op (Write place at content))
-write_of arguments = Err Word
-
--- `sync` (own)
-unfoldable pub sync_of : List (List ℕ) → Result Request ScriptKind
-sync_of [] = Ok requests.Sync
-sync_of arguments = Err Word
-
--- the request of a verb and its arguments
-unfoldable pub request_of : Verb → List (List ℕ) → Result Request ScriptKind
-request_of verbs.Create arguments = create_of arguments
-request_of verbs.Write arguments = write_of arguments
-request_of verbs.Sync arguments = sync_of arguments
+use Rattle.script_text.specs.Words.{parts_at, number_of}
+use Rattle.script_text.specs.Requests.{verb_of, request_of}
 
 -- ---- lines
 

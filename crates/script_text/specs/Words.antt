@@ -1,11 +1,12 @@
 -- Words of a script: numbers and texts, and the parts of a list of bytes. Bytes stand as their codes: 10 for LF, 32 a space, 35 `#`, 47 `/`,
 -- 48 `0`, 58 `:`, 92 a backslash, 97 `a`, 120 `x`.
-use Rattle.std.specs.Prelude.{ℕ, ◌+◌, ◌-◌, ◌*◌, ◌^◌, ◌&&◌, nat_le, nat_lt, ◌==◌, if◌then◌else◌, List, [], ◌∷◌, ◌++◌, Option, Some, None, Result, ok_or, option_to_list}
+use Rattle.std.specs.Prelude.{ℕ, ◌+◌, ◌-◌, ◌*◌, ◌^◌, ◌&&◌, nat_le, nat_lt, ◌==◌, if◌then◌else◌, List, [], ◌∷◌, ◌++◌, Option, Some, None, Result, Ok, Err, ok_or, option_to_list}
 use Rattle.std.specs.Char.{is_ascii_digit}
 use Rattle.std.specs.Option.{option_and_then, option_map}
 use Rattle.std.specs.List.{slice_split}
 use Rattle.script_text.specs.declared.fault.ScriptKind.{ScriptKind}
 use Rattle.script_text.specs.declared.fault.ScriptKind.TheVariants.{Escape, Number}
+use Rattle.script_text.specs.Kinds.{◌>>=◌}
 use Rattle.script_text.specs.declared.text.Spot.{Spot}
 use Rattle.script_text.specs.declared.text.Spot.TheVariants.{Between, Backslash, Hex, High}
 
@@ -30,6 +31,12 @@ number_of (first ∷ second ∷ digits) = if first == 48 then None else number_b
 -- a number as an argument
 unfoldable pub number_word : List ℕ → Result ℕ ScriptKind
 number_word word = ok_or (number_of word) Number
+
+-- a number as an argument that is between two others, both included (own)
+unfoldable pub number_up_to : ℕ → ℕ → List ℕ → Result ℕ ScriptKind
+number_up_to least most word = do
+  number ← number_word word
+  if nat_le least number && nat_le number most then Ok number else Err Number
 
 -- ---- texts
 

@@ -1,7 +1,8 @@
 //! Scripts as texts: bytes are read to the lines of a script, or to the script's first fault.
 //!
 //! A script is lines that end in LF. A line is empty, a comment from `#` on, or words with one space between them: a
-//! caller from 1 to 16, a verb and its arguments. The verbs are `create PATH`, `write PATH OFFSET TEXT` and `sync`.
+//! caller from 1 to 16, a verb and its arguments. The verbs are those of the operations, `fill` for a write of equal bytes, and
+//! `sync`.
 #![tactic(auto)]
 
 mod fault;
@@ -13,6 +14,7 @@ mod path;
 mod request;
 mod script;
 mod text;
+mod verb;
 
 pub use fault::{ScriptFault, ScriptKind};
 pub use flat_model::{Line, Request};

@@ -30,7 +30,7 @@ fn sub(head: &[u8]) -> Result<SubId, LineFault>
 
 /// The name that the piece of a path spells.
 #[tactic(auto, unfolding(crate::specs::Paths::name_of))]
-fn name(alloc: Global, piece: &[u8]) -> Result<Name, LineFault>
+pub(crate) fn name(alloc: Global, piece: &[u8]) -> Result<Name, LineFault>
     ensures { Gives (λ name. name) result (name_of piece.now) }
 {
     let bytes = text(alloc, piece)?;

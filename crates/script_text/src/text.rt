@@ -1,11 +1,10 @@
 ghost use Rattle.std.specs.Prelude.{◌≡◌};
 ghost use Rattle.script_text.specs.Kinds.{Gives};
 ghost use Rattle.script_text.specs.Words.{hex_digit, hex_byte, next_spot, text_of};
-ghost use Rattle.script_text.specs.Paths.{content_of};
+ghost use Rattle.script_text.specs.Paths.{text_up_to};
 
 use crate::fault::{LineFault, ScriptKind};
 use blk_base::Text;
-use blk_base::limits::MOST_WRITTEN_BYTES;
 use std::alloc::Global;
 
 /// Where the reading of a text word stands.
@@ -81,13 +80,13 @@ pub(crate) fn text(alloc: Global, word: &[u8]) -> Result<Vec<u8>, LineFault>
     }
 }
 
-/// The text that the word spells, of 1 to 65,536 bytes; else `Path` (own limit).
-#[tactic(auto, unfolding(crate::specs::Paths::content_of))]
-pub(crate) fn content(alloc: Global, word: &[u8]) -> Result<Text, LineFault>
-    ensures { Gives (λ text. text) result (content_of word.now) }
+/// The text that the word spells, of 1 to so many bytes; else `Path` (own).
+#[tactic(auto, unfolding(crate::specs::Paths::text_up_to))]
+pub(crate) fn text_up_to(alloc: Global, most: usize, word: &[u8]) -> Result<Text, LineFault>
+    ensures { Gives (λ text. text) result (text_up_to most word.now) }
 {
     let bytes = text(alloc, word)?;
-    if bytes.is_empty() || MOST_WRITTEN_BYTES < bytes.len() {
+    if bytes.is_empty() || most < bytes.len() {
         return Err(LineFault::Kind(ScriptKind::Path));
     }
     Ok(Text::new(alloc, bytes.as_slice())?)
