@@ -17,6 +17,4 @@ mod listed;
 #[cfg(test)]
 mod records;
 #[cfg(test)]
-mod script;
-#[cfg(test)]
 mod told;

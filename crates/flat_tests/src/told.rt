@@ -1,9 +1,9 @@
 //! What volumes tell, and volumes that are no longer coherent.
-use crate::script::{is_said, name_of, operation};
 use blk_base::format::{FIRST_SUB, SECOND_SUB};
 use blk_base::{Ino, SubId, Text};
 use flat_model::{Kind, NameAt, NameView};
 use flat_volume::{FlatVolume, is_in_limits};
+use operation_rows::{is_said, name_of, operation};
 use std::alloc::Global;
 use std::test::Fail;
 
@@ -19,7 +19,7 @@ pub fn gives(
         return Err(Fail::from("past its limits"));
     }
     let answer = volume.apply(alloc, &op)?;
-    is_said(alloc, &answer, want)
+    Ok(is_said(alloc, &answer, want)?)
 }
 
 /// A volume of one subvolume with these inodes, each of a number and a kind, and these names, each of a directory, an

@@ -2,26 +2,48 @@
 //!
 //! A place is a path as `/d/x`, in subvolume 5, or behind the number of another, as `256:/d/x`. A name or a text is a word
 //! of parts joined by `+`: each is its own bytes, or `*COUNT:BYTE`, one byte so many times.
-use blk_base::{Name, SubId, Text, is_name};
+use blk_base::{Name, OutOfMemory, SubId, Text, is_name};
 use flat_model::{Answer, Op, Path, Place};
-use std::alloc::Global;
-use std::test::Fail;
+use std::alloc::{AllocFailed, Global};
+
+/// Why words are no row.
+#[derive(Debug, Drop, thiserror::Error)]
+pub enum RowFault {
+    /// They have not the form of one.
+    #[error("no row")]
+    Form,
+    /// Out of memory.
+    #[error("out of memory")]
+    OutOfMemory,
+}
+
+impl From<OutOfMemory> for RowFault {
+    fn from(_e: OutOfMemory) -> RowFault {
+        RowFault::OutOfMemory
+    }
+}
+
+impl<T: Drop> From<AllocFailed<T>> for RowFault {
+    fn from(_e: AllocFailed<T>) -> RowFault {
+        RowFault::OutOfMemory
+    }
+}
 
 /// The number that a word spells.
-pub fn number(word: &str) -> Result<u64, Fail> {
+fn number(word: &str) -> Result<u64, RowFault> {
     match word.parse::<u64>() {
         Ok(number) => Ok(number),
-        Err(_) => Err(Fail::from("no number")),
+        Err(_) => Err(RowFault::Form),
     }
 }
 
 /// Adds one byte so many times, as `COUNT:BYTE` has it.
-fn add_run(bytes: &mut Vec<u8>, run: &str) -> Result<(), Fail> {
+fn add_run(bytes: &mut Vec<u8>, run: &str) -> Result<(), RowFault> {
     let Some((count, byte)) = run.split_once(':') else {
-        return Err(Fail::from("no run"));
+        return Err(RowFault::Form);
     };
     let Ok(byte) = byte.parse::<u8>() else {
-        return Err(Fail::from("no byte"));
+        return Err(RowFault::Form);
     };
     for _ in 0..number(count)? {
         bytes.push(byte)?;
@@ -30,7 +52,7 @@ fn add_run(bytes: &mut Vec<u8>, run: &str) -> Result<(), Fail> {
 }
 
 /// The bytes that a word stands for.
-pub fn bytes_of(alloc: Global, word: &str) -> Result<Vec<u8>, Fail> {
+fn bytes_of(alloc: Global, word: &str) -> Result<Vec<u8>, RowFault> {
     let mut bytes = Vec::new(alloc);
     for part in word.split('+') {
         match part.strip_prefix('*') {
@@ -46,22 +68,22 @@ pub fn bytes_of(alloc: Global, word: &str) -> Result<Vec<u8>, Fail> {
 }
 
 /// The text that a word stands for.
-fn text_of(alloc: Global, word: &str) -> Result<Text, Fail> {
+fn text_of(alloc: Global, word: &str) -> Result<Text, RowFault> {
     let bytes = bytes_of(alloc, word)?;
     Ok(Text::new(alloc, bytes.as_slice())?)
 }
 
 /// The name that a word stands for.
-pub fn name_of(alloc: Global, word: &str) -> Result<Name, Fail> {
+pub fn name_of(alloc: Global, word: &str) -> Result<Name, RowFault> {
     let bytes = bytes_of(alloc, word)?;
     if !is_name(bytes.as_slice()) {
-        return Err(Fail::from("no name"));
+        return Err(RowFault::Form);
     }
     Ok(Name::new(alloc, bytes.as_slice())?)
 }
 
 /// The path of these names, each behind a `/`; `/` alone is the root directory.
-pub fn path_of(alloc: Global, words: &str) -> Result<Path, Fail> {
+pub fn path_of(alloc: Global, words: &str) -> Result<Path, RowFault> {
     let mut names = Vec::new(alloc);
     for word in words.split('/') {
         if !word.is_empty() {
@@ -69,13 +91,13 @@ pub fn path_of(alloc: Global, words: &str) -> Result<Path, Fail> {
         }
     }
     if names.len() > 64 {
-        return Err(Fail::from("a long path"));
+        return Err(RowFault::Form);
     }
     Ok(Path::new(names))
 }
 
 /// The place that a word stands for.
-fn place_of(alloc: Global, word: &str) -> Result<Place, Fail> {
+fn place_of(alloc: Global, word: &str) -> Result<Place, RowFault> {
     match word.split_once(":/") {
         Some((sub, path)) => Ok(Place {
             sub: SubId(number(sub)?),
@@ -89,12 +111,12 @@ fn place_of(alloc: Global, word: &str) -> Result<Place, Fail> {
 }
 
 /// The operation of these words: its name, and at most three words more.
-pub fn operation(alloc: Global, line: &str) -> Result<Op, Fail> {
+pub fn operation(alloc: Global, line: &str) -> Result<Op, RowFault> {
     let mut words: [&str; 4] = ["", "", "", ""];
     let mut count = 0;
     for word in line.split(' ') {
         if count >= 4 {
-            return Err(Fail::from("too many words"));
+            return Err(RowFault::Form);
         }
         words[count] = word;
         count += 1;
@@ -122,7 +144,7 @@ fn content_operation(
     place: Place,
     second: &str,
     third: &str,
-) -> Result<Op, Fail> {
+) -> Result<Op, RowFault> {
     match name.as_bytes() {
         b"write" => Ok(Op::Write(place, number(second)?, text_of(alloc, third)?)),
         b"truncate" => Ok(Op::Truncate(place, number(second)?)),
@@ -130,7 +152,7 @@ fn content_operation(
         b"setattr" => Ok(Op::SetAttr(place, name_of(alloc, second)?, text_of(alloc, third)?)),
         b"delattr" => Ok(Op::DelAttr(place, name_of(alloc, second)?)),
         b"getattr" => Ok(Op::GetAttr(place, name_of(alloc, second)?)),
-        _ => Err(Fail::from("no operation")),
+        _ => Err(RowFault::Form),
     }
 }
 
@@ -154,7 +176,7 @@ fn word_of(answer: &Answer) -> &'static str {
 }
 
 /// Whether an answer is the one of these words: `ok NUMBER`, `ok BYTES`, or one word.
-pub fn is_said(alloc: Global, answer: &Answer, words: &str) -> Result<bool, Fail> {
+pub fn is_said(alloc: Global, answer: &Answer, words: &str) -> Result<bool, RowFault> {
     match (answer, words.strip_prefix("ok ")) {
         (Answer::Number(given), Some(word)) => Ok(*given == number(word)?),
         (Answer::Bytes(given), Some(word)) => Ok(*given == text_of(alloc, word)?),
