@@ -1,9 +1,10 @@
 -- Edits of one subvolume and of one tree, one behind the other, and an edit of a tree as one of its subvolume.
-use Rattle.std.proofs.Common.{◌≡◌, ◌≢◌, ◌≤◌, ◌+◌, ◌∙◌, ℕ, List, [], ◌++◌, length, refl, sym, ap, subst, arith}
+use Rattle.std.proofs.Common.{◌≡◌, ◌≢◌, ◌≤◌, ◌+◌, ◌∙◌, ℕ, List, [], ◌++◌, length, refl, sym, ap, subst, arith, inl, inr}
 use Rattle.std.specs.Prelude.{All, Contains, slice_index_or}
 use Rattle.std.proofs.lemmas.List.Elements.{All-append, All-contains}
 use Rattle.blk_base.specs.Address.{IsAllowed}
 use Rattle.blk_base.specs.Trees.{NoneTwice}
+use Rattle.blk_base.proofs.Members.{is_in}
 use Rattle.block_table.specs.declared.state.SlotState.TheVariants.{LetGo}
 use Rattle.block_table.specs.declared.tree.SubState.{SubState}
 use Rattle.block_table.specs.declared.tree.Tree.{Tree}
@@ -11,6 +12,7 @@ use Rattle.block_table.specs.Slot.{BlockSlot}
 use Rattle.block_table.specs.Table.{Table}
 use Rattle.block_table.specs.TreeIn.{IsTaken, block_at}
 use Rattle.tree_range.specs.Shape.{AreAlike, IsTree, tree_items, tree_reach}
+use Rattle.tree_range.proofs.Local.{tree_alike}
 use Rattle.tree_range.proofs.Rise.{All-right}
 use Rattle.tree_frame.specs.Frame.{AreCurrent, IsEdit, TakesAtMost}
 use Rattle.tree_frame.proofs.Among.{alike_right, edit_among, once_among}
@@ -18,7 +20,7 @@ use Rattle.tree_frame.proofs.EditLaws.{edits_join, nothing_is_an_edit}
 use Rattle.flat_model.specs.Volume.{Subvolume}
 use Rattle.volume_image.specs.Subvolume.{AreItemsOf}
 use Rattle.volume_image.proofs.Standing.{items_local}
-use Rattle.table_volume.specs.Edited.{BearGeneration, IsSubEdit}
+use Rattle.table_volume.specs.Edited.{BearGeneration, IsSubEdit, KeepsClean}
 use Rattle.table_volume.specs.TreeEdit.{IsTreeEdit}
 use Rattle.table_volume.specs.Gives.{GivesSubvolume, bytes_there, data_in, sub_reach, tree_data}
 use Rattle.table_volume.proofs.Giving.{subvolume_taken}
@@ -39,12 +41,37 @@ takes_more old new n m one less = record {
   free = omega (arith, one.free, less);
 }
 
+-- ---- blocks that aren't Dirty
+
+pub clean_joined : (old mid new : Table) (a b c : Tree) → KeepsClean old mid a b → KeepsClean mid new b c → KeepsClean old new a c
+clean_joined old mid new a b c one two at there clean =
+    let later = two at there clean in
+    let before = one at later.0 (λ dirty. clean (ap (λ (slot : BlockSlot). slot.state) later.1 ∙ dirty)) in
+    (before.0, later.1 ∙ before.1)
+
+pub clean_nothing : (table : Table) (tree : Tree) → KeepsClean table table tree tree
+clean_nothing table tree at there clean = (there, refl)
+
+-- where the tree's blocks stay as they are
+pub alike_keeps_clean : (old new : Table) (tree : Tree) → AreAlike old new (tree_reach old tree) → KeepsClean old new tree tree
+alike_keeps_clean old new tree alike at there clean =
+    let was : Contains (tree_reach old tree) at = subst (λ (l : List ℕ). Contains l at) (tree_alike old new tree alike).1 there in
+    (was, All-contains (λ (a : ℕ). block_at new a ≡ block_at old a) (tree_reach old tree) at alike was)
+
+-- an edit of the tree alone keeps them
+pub tree_keeps_clean : (old new : Table) (before after : Tree) → IsEdit old new (tree_reach old before) (tree_reach new after) → KeepsClean old new before after
+tree_keeps_clean old new before after edit at there clean = elim (is_in (tree_reach old before) at) [
+  | inl was ↦ (was, edit.kept_whole at was there (λ dirty. clean (edit.kept at was there ∙ dirty)))
+  | inr none ↦ absurd (clean (edit.fresh at there none).1)
+]
+
 -- ---- of a subvolume
 
 pub sub_joined : (old mid new : Table) (a b c : SubState) (n m : ℕ) → IsSubEdit old mid a b n → IsSubEdit mid new b c m → IsSubEdit old new a c (n + m)
 sub_joined old mid new a b c n m one two = record {
   edit = edits_join old mid new (sub_reach old a.tree) (sub_reach mid b.tree) (sub_reach new c.tree) one.edit two.edit;
   current = two.current;
+  kept = clean_joined old mid new a.tree b.tree c.tree one.kept two.kept;
   sealed = λ fsid was h. let middle = one.sealed fsid was h in two.sealed fsid middle.0 middle.1;
   owner = two.owner ∙ one.owner;
   running = two.running ∙ one.running;
@@ -56,6 +83,7 @@ pub sub_nothing : (table : Table) (state : SubState) → AreCurrent table (sub_r
 sub_nothing table state current = record {
   edit = nothing_is_an_edit table (sub_reach table state.tree);
   current = current;
+  kept = clean_nothing table state.tree;
   sealed = λ fsid was h. (was, h);
   owner = refl;
   running = refl;
@@ -67,6 +95,7 @@ pub sub_more : (old new : Table) (a b : SubState) (n m : ℕ) → IsSubEdit old 
 sub_more old new a b n m one less = record {
   edit = one.edit;
   current = one.current;
+  kept = one.kept;
   sealed = one.sealed;
   owner = one.owner;
   running = one.running;
@@ -148,10 +177,11 @@ tree_as_sub old new before after sub most gives current edit data_same running =
     let files = tree_data old before.tree in
     let reach_now : tree_reach new after.tree ++ files ≡ sub_reach new after.tree = ap (λ (l : List ℕ). tree_reach new after.tree ++ l) (sym data_same) in
     let alike : AreAlike old new files = beside_alike old new before.tree after.tree before.running most files gives.once taken edit in
-    let kept : AreCurrent new files = alike_current old new files alike (All-right (λ (at : ℕ). (block_at old at).state ≢ LetGo) (tree_reach old before.tree) files current) in
+    let files_current : AreCurrent new files = alike_current old new files alike (All-right (λ (at : ℕ). (block_at old at).state ≢ LetGo) (tree_reach old before.tree) files current) in
     record {
       edit = subst (λ (l : List ℕ). IsEdit old new (sub_reach old before.tree) l) reach_now (beside_edit old new before.tree after.tree before.running most files gives.once taken edit);
-      current = subst (λ (l : List ℕ). AreCurrent new l) reach_now (All-append (λ (at : ℕ). (block_at new at).state ≢ LetGo) (tree_reach new after.tree) files edit.current kept);
+      current = subst (λ (l : List ℕ). AreCurrent new l) reach_now (All-append (λ (at : ℕ). (block_at new at).state ≢ LetGo) (tree_reach new after.tree) files edit.current files_current);
+      kept = tree_keeps_clean old new before.tree after.tree edit.edit;
       sealed = edit.sealed;
       owner = edit.owner;
       running = running;
