@@ -19,6 +19,7 @@ use Rattle.tree_range.specs.Shape.{AreAlike, IsTree, tree_items, tree_reach}
 use Rattle.tree_range.proofs.Found.{contains_under}
 use Rattle.tree_range.proofs.Local.{tree_alike}
 use Rattle.table_volume.specs.Edited.{BearGeneration}
+use Rattle.table_volume.proofs.SubEdits.{alike_keeps_clean, clean_joined, tree_keeps_clean}
 use Rattle.tree_range.proofs.Rise.{All-left, All-right, rise_head, rise_tail}
 use Rattle.tree_range.proofs.Under.{has_key_means}
 use Rattle.tree_delete_range.specs.Outside.{items_outside}
@@ -293,7 +294,7 @@ module _ (old mid new : Table) (tree after : Tree) (running ino from to most : �
       edited old new tree after running ino most rest (held_after mid new tree after running most rest with_rest tree_edit) same
       (edits_join old mid new (sub_reach old tree) (tree_reach mid tree ++ rest) (tree_reach new after ++ rest)
       (subst (λ (l : List ℕ). IsEdit old mid (sub_reach old tree) (l ++ rest)) (sym same_reach) left.edit) (tree_and_files mid new tree after running most rest with_rest tree_edit))
-      owner (λ fsid was h. sealed fsid was (sealed_alike tree.level old mid (record { fsid = fsid; at = tree.root; generation = was; owner = tree.owner; level = tree.level }) (alike_tree old mid tree rest held left) h))
+      owner (clean_joined old mid new tree tree after (alike_keeps_clean old mid tree (alike_tree old mid tree rest held left)) (tree_keeps_clean mid new tree after edit)) (λ fsid was h. sealed fsid was (sealed_alike tree.level old mid (record { fsid = fsid; at = tree.root; generation = was; owner = tree.owner; level = tree.level }) (alike_tree old mid tree rest held left) h))
       (subst (λ (l : List Item). BearGeneration running l (tree_items new after)) same_items tree_edit.bear)
       (record { spare = omega (arith, left.takes.spare, blocks.spare); free = omega (arith, left.takes.free, blocks.free) })
       (λ key beside. under_outside key (beside_outside key beside))

@@ -13,7 +13,7 @@ use Rattle.tree_range.specs.Shape.{tree_items}
 use Rattle.tree_frame.specs.Frame.{with_item}
 use Rattle.table_volume.specs.Gives.{data_in, tree_data}
 use Rattle.table_volume.specs.TreeEdit.{IsTreeEdit}
-use Rattle.table_volume.proofs.SubEdits.{tree_joined}
+use Rattle.table_volume.proofs.SubEdits.{tree_joined, tree_keeps_clean}
 use Rattle.volume_image.specs.Subvolume.{data_addresses, make_key, run_addresses}
 use Rattle.file_extents.specs.Extents.{Contents, HasRun, HoldContents, IsBeside, IsContentEdit, IsHeld, IsOver, NoneOver}
 use Rattle.file_extents.proofs.Runs.{AreWritten, cut_holds, cut_none, cut_others}
@@ -86,7 +86,7 @@ module _ (old mid new : Table) (before between after : Tree) (running ino number
   cut_edit =
       let with = held_with old before held in
       edited old new before after running ino 34 (tree_data old before) (held_after old new before after running 34 (tree_data old before) with whole) same
-      (tree_and_files old new before after running 34 (tree_data old before) with whole) whole.owner whole.sealed whole.bear whole.taken
+      (tree_and_files old new before after running 34 (tree_data old before) with whole) whole.owner (tree_keeps_clean old new before after whole.edit) whole.sealed whole.bear whole.taken
       (λ key beside. under_other (tree_items mid between) (tree_items new after) ino begin at (number - begin) two items_two read_two key (beside_other ino (4096 * begin) key beside)
       ∙ under_other (tree_items old before) (tree_items mid between) ino number (at + 4096 * (number - begin)) (count - (number - begin)) one items_one read_one key (beside_other ino (4096 * number) key beside))
       (λ x was is. same_block old new (tree_data old before) x (files_alike old new before after running 34 (tree_data old before) with whole) was)

@@ -30,6 +30,7 @@ use Rattle.tree_frame.proofs.Sealed.{sealed_alike}
 use Rattle.tree_frame.proofs.StepLaws.{taken_is_an_edit}
 use Rattle.data_release.proofs.Left.{stay_current, stay_taken}
 use Rattle.table_volume.specs.Edited.{BearGeneration}
+use Rattle.table_volume.proofs.SubEdits.{alike_keeps_clean, clean_joined, tree_keeps_clean}
 use Rattle.table_volume.specs.Gives.{data_in, sub_reach, tree_data}
 use Rattle.table_volume.specs.TreeEdit.{IsTreeEdit}
 use Rattle.table_volume.proofs.Giving.{data_at}
@@ -216,7 +217,7 @@ module _ (old mid new : Table) (tree after : Tree) (running ino number a begin a
   fill_edit =
       edited old new tree after running ino 18 (tree_data old tree ++ a ∷ []) (held_after mid new tree after running 17 (tree_data old tree ++ a ∷ []) held_then edit) same
       (edits_join old mid new (sub_reach old tree) (tree_reach mid tree ++ (tree_data old tree ++ a ∷ [])) (tree_reach new after ++ (tree_data old tree ++ a ∷ [])) (edit_mid old mid tree a held fresh others) (tree_and_files mid new tree after running 17 (tree_data old tree ++ a ∷ []) held_then edit))
-      edit.owner (λ fsid was h. edit.sealed fsid was (sealed_mid old mid tree a held fresh others fsid was h))
+      edit.owner (clean_joined old mid new tree tree after (alike_keeps_clean old mid tree (alike_reach old mid tree a held fresh others)) (tree_keeps_clean mid new tree after edit.edit)) (λ fsid was h. edit.sealed fsid was (sealed_mid old mid tree a held fresh others fsid was h))
       (subst (λ (l : List Item). BearGeneration running l (tree_items new after)) (items_mid old mid tree a held fresh others) edit.bear)
       (record { spare = omega (arith, edit.taken.spare, spare); free = omega (arith, edit.taken.free, free) })
       (λ k beside. under_other items (tree_items new after) ino begin at (count + 1) said items_now read_now k (beside_other ino (4096 * begin) k beside))

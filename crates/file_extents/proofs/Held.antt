@@ -27,12 +27,12 @@ use Rattle.tree_frame.proofs.EditLaws.{edits_by_membership}
 use Rattle.tree_frame.proofs.Reading.{reach_taken}
 use Rattle.cow_tree.proofs.Lists.{all_from, all_to, contained_times}
 use Rattle.data_release.proofs.Left.{stay_current, stay_taken}
-use Rattle.table_volume.specs.Edited.{BearGeneration}
+use Rattle.table_volume.specs.Edited.{BearGeneration, KeepsClean}
 use Rattle.table_volume.specs.Gives.{bytes_there, data_in, sub_reach, tree_data}
 use Rattle.table_volume.specs.TreeEdit.{IsTreeEdit}
 use Rattle.table_volume.proofs.Items.{bear_joined, nothing_bears}
 use Rattle.tree_frame.proofs.EditLaws.{edits_join, nothing_is_an_edit}
-use Rattle.table_volume.proofs.SubEdits.{beside_alike, beside_edit, beside_once}
+use Rattle.table_volume.proofs.SubEdits.{beside_alike, beside_edit, beside_once, clean_joined, clean_nothing}
 use Rattle.volume_image.specs.Subvolume.{Data, data_addresses, item_addresses, make_key}
 use Rattle.volume_image.proofs.Extents.{run_is_reached}
 use Rattle.volume_image.proofs.Members.{flat_map_in}
@@ -124,17 +124,18 @@ blocks_stay Runs was is contents same are = record {
 
 -- an edit of a file's extents, by its parts
 pub edited : (old new : Table) (before after : Tree) (running ino most : ℕ) (files : List ℕ) → IsHeldWith new after files → ((at : ℕ) → times_in at files ≡ times_in at (tree_data new after))
-    → IsEdit old new (sub_reach old before) (tree_reach new after ++ files) → after.owner ≡ before.owner → ((fsid : List ℕ) (was : ℕ) → IsSealedTree old before fsid was → (now : ℕ) × IsSealedTree new after fsid now)
+    → IsEdit old new (sub_reach old before) (tree_reach new after ++ files) → after.owner ≡ before.owner → KeepsClean old new before after → ((fsid : List ℕ) (was : ℕ) → IsSealedTree old before fsid was → (now : ℕ) × IsSealedTree new after fsid now)
     → BearGeneration running (tree_items old before) (tree_items new after) → TakesAtMost old new most
     → ((key : Key) → IsBeside ino key → data_under key (tree_items new after) ≡ data_under key (tree_items old before))
     → ((at : ℕ) → Contains (tree_data old before) at → Contains (tree_data new after) at → block_at new at ≡ block_at old at)
     → IsContentEdit old new before after running ino most
-edited old new before after running ino most files held same edit owner sealed bear taken others alike =
+edited old new before after running ino most files held same edit owner kept sealed bear taken others alike =
     let with : IsHeldWith new after (tree_data new after) = refiled files (tree_data new after) same new after held in
     record {
       held = record { stands = with.stands; taken = with.taken; current = with.current; once = with.once };
       owner = owner;
       edit = edit_more files (tree_data new after) same (tree_reach new after) old new (sub_reach old before) edit;
+      kept = kept;
       sealed = sealed;
       bear = bear;
       taken = taken;
@@ -149,6 +150,7 @@ nothing table tree running ino most held = record {
   held = held;
   owner = refl;
   edit = nothing_is_an_edit table (sub_reach table tree);
+  kept = clean_nothing table tree;
   sealed = λ fsid was h. (was, h);
   bear = nothing_bears running (tree_items table tree);
   taken = record { spare = omega arith; free = omega arith };
@@ -161,6 +163,7 @@ content_edits_join old mid new a b c running ino n m one two = record {
   held = two.held;
   owner = two.owner ∙ one.owner;
   edit = edits_join old mid new (sub_reach old a) (sub_reach mid b) (sub_reach new c) one.edit two.edit;
+  kept = clean_joined old mid new a b c one.kept two.kept;
   sealed = λ fsid was h. let middle = one.sealed fsid was h in two.sealed fsid middle.0 middle.1;
   bear = bear_joined running (tree_items old a) (tree_items mid b) (tree_items new c) one.bear two.bear;
   taken = record { spare = omega (arith, one.taken.spare, two.taken.spare); free = omega (arith, one.taken.free, two.taken.free) };
@@ -173,6 +176,7 @@ content_edit_more old new a b running ino n m one less = record {
   held = one.held;
   owner = one.owner;
   edit = one.edit;
+  kept = one.kept;
   sealed = one.sealed;
   bear = one.bear;
   taken = record { spare = omega (arith, one.taken.spare, less); free = omega (arith, one.taken.free, less) };

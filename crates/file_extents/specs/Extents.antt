@@ -12,7 +12,7 @@ use Rattle.tree_range.specs.Between.{data_under}
 use Rattle.tree_range.specs.Shape.{IsTree, tree_items}
 use Rattle.tree_frame.specs.Frame.{AreCurrent, IsEdit, TakesAtMost}
 use Rattle.volume_image.specs.Subvolume.{Data, item_addresses, make_key}
-use Rattle.table_volume.specs.Edited.{BearGeneration}
+use Rattle.table_volume.specs.Edited.{BearGeneration, KeepsClean}
 use Rattle.table_volume.specs.Gives.{data_in, sub_reach}
 use Rattle.table_volume.specs.Operated.{HasRoom}
 
@@ -118,12 +118,13 @@ abbrev pub IsBeside : ℕ → Key → Type 0
 IsBeside ino key = key.objectid ≡ ino → key.kind ≡ extent_data → ⊥
 
 -- An edit of the extents of one file, behind which the tree stands elsewhere: every other item stays, and so does each of their data blocks;
--- the data blocks of the file that are new were Free and are Dirty, and those that it has no more are let go. Where the headers of the tree's blocks
--- were right they are; what is new bears this generation; and it takes at most so many blocks and buffers more than it gives back (own).
+-- the data blocks of the file that are new were Free and are Dirty, and those that it has no more are let go. Tree blocks that aren't Dirty stood in the
+-- tree before, as they stand; where the headers of the tree's blocks were right they are; what is new bears this generation; and it takes at most so many blocks and buffers more than it gives back (own).
 pub record IsContentEdit (old new : Table) (before after : Tree) (running ino most : ℕ) : Type 0 where
   pub held : IsHeld new after
   pub owner : after.owner ≡ before.owner
   pub edit : IsEdit old new (sub_reach old before) (sub_reach new after)
+  pub kept : KeepsClean old new before after
   pub sealed : (fsid : List ℕ) (was : ℕ) → IsSealedTree old before fsid was → (now : ℕ) × IsSealedTree new after fsid now
   pub bear : BearGeneration running (tree_items old before) (tree_items new after)
   pub taken : TakesAtMost old new most

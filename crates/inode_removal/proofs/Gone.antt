@@ -34,7 +34,8 @@ use Rattle.flat_model.proofs.Maps.{get_remove_same, some_none}
 use Rattle.volume_image.specs.Subvolume.{AreItemsOf, Data, IsAsked, data_addresses, item_addresses, make_key}
 use Rattle.volume_image.proofs.Lists.{in_cons, in_nothing}
 use Rattle.volume_image.proofs.Members.{filter_in, flat_map_in, in_filter}
-use Rattle.table_volume.specs.Edited.{IsSubEdit}
+use Rattle.table_volume.specs.Edited.{IsSubEdit, KeepsClean}
+use Rattle.table_volume.proofs.SubEdits.{alike_keeps_clean, clean_joined, tree_keeps_clean}
 use Rattle.table_volume.specs.Gives.{GivesSubvolume, bytes_there, data_in, sub_reach, tree_data}
 use Rattle.table_volume.specs.Keyed.{AsksAttributes, AsksExtRefs, AsksHashed, AsksIndexed, AsksInode, AsksRefs, AsksTarget, DoesAsk, HoldsExtents, HoldsKey, does_inode_count, is_touched}
 use Rattle.table_volume.proofs.Changes.{inode_removed}
@@ -335,6 +336,7 @@ module _ (old mid : Table) (before : Tree) (sub : Subvolume) (ino : ℕ) (gives 
     sub_edit state is = record {
       edit = subst (λ (t : Tree). IsEdit old new (sub_reach old t) (sub_reach new after)) (sym is) whole_edit;
       current = whole_current;
+      kept = subst (λ (t : Tree). KeepsClean old new t after) (sym is) (clean_joined old mid new before before after (alike_keeps_clean old mid before tree_same) (tree_keeps_clean mid new before after cut.edit));
       sealed = λ fsid was h. cut.sealed fsid was (sealed_alike before.level old mid (record { fsid = fsid; at = before.root; generation = was; owner = before.owner; level = before.level }) tree_same (subst (λ (t : Tree). IsSealedTree old t fsid was) is h));
       owner = cut.owner ∙ ap (λ (t : Tree). t.owner) (sym is);
       running = refl;

@@ -71,6 +71,7 @@ renumbered old new before after most ino index sub makes = record {
   edit = record {
     edit = makes.edit.edit;
     current = makes.edit.current;
+    kept = makes.edit.kept;
     sealed = makes.edit.sealed;
     owner = makes.edit.owner;
     running = makes.edit.running;
