@@ -1,0 +1,6 @@
+mod Naming
+mod Walking
+mod Rows
+mod Inline
+mod ByKind
+mod Subvolumes

@@ -1,0 +1,5 @@
+pub mod Names
+pub mod Lines
+pub mod Walk
+pub mod Listing
+pub mod View
