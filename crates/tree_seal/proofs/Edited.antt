@@ -102,34 +102,46 @@ found_below (suc level) table is_root want at e shape above seals there =
 
 -- ---- the edited tree
 
+-- blocks of a tree that aren't Dirty were in the tree before, and stand as they stood; and blocks of both keep their states
+pub record KeepsStates (old new : Table) (before after : List ℕ) : Type 0 where
+  pub clean : (at : ℕ) → Contains after at → (block_at new at).state ≢ Dirty → Contains before at × (block_at new at ≡ block_at old at)
+  pub states : (at : ℕ) → Contains before at → Contains after at → (block_at new at).state ≡ (block_at old at).state
+
+edit_keeps_states : (old new : Table) (before after : List ℕ) → IsEdit old new before after → KeepsStates old new before after
+edit_keeps_states old new before after edit = record {
+  clean = λ at here clean. elim (is_in before at) [
+    | inr none ↦ absurd (clean (edit.fresh at here none).1)
+    | inl there ↦ (there, edit.kept_whole at there here (λ dirty. clean (edit.kept at there here ∙ dirty)))
+  ];
+  states = edit.kept;
+}
+
 -- where a block of the edited tree isn't Dirty, it is one from before, and so are the blocks below it
-child_clean : (old new : Table) (before after : List ℕ) (level root_level : ℕ) (root : ℕ) (want : Want) (place : ℕ) (d : Pointer) → IsEdit old new before after → ((at : ℕ) → Contains before at → Contains (reach_below root_level old root) at) → ((at : ℕ) → Contains (reach_below root_level old root) at → Contains before at)
+child_clean : (old new : Table) (before after : List ℕ) (level root_level : ℕ) (root : ℕ) (want : Want) (place : ℕ) (d : Pointer) → KeepsStates old new before after → ((at : ℕ) → Contains before at → Contains (reach_below root_level old root) at) → ((at : ℕ) → Contains (reach_below root_level old root) at → Contains before at)
     → ((at : ℕ) → Contains (reach_below root_level old root) at → IsFoundBelow root_level old root at)
     → want.level ≡ suc level → IsSealedBlock new want → Contains after want.at.0 → (block_at new want.at.0).state ≢ Dirty
     → place < length (node_pointers new want.at.0) → Contains after (slice_index_or (node_pointers new want.at.0) place d).at → (block_at new (slice_index_or (node_pointers new want.at.0) place d).at).state ≢ Dirty
 child_clean old new before after level root_level root want place d edit to from found level_is seals here clean within child_here =
     let at = want.at.0 in
     let child : Pointer = slice_index_or (node_pointers new at) place d in
-    elim (is_in before at) [
-      | inr none ↦ absurd (clean (edit.fresh at here none).1)
-      | inl there ↦
-          let was_clean : (block_at old at).state ≢ Dirty = λ dirty. clean (edit.kept at there here ∙ dirty) in
-          let same : block_at new at ≡ block_at old at = edit.kept_whole at there here was_clean in
-          let block : IsFoundBelow root_level old root at = found at (to at there) in
-          let header_old : HeaderFits block.want (block_at old at).bytes = subst (λ (a : ℕ). HeaderFits block.want (block_at old a).bytes) block.at_is (block.seals (λ dirty. was_clean (subst (λ (a : ℕ). (block_at old a).state ≡ Dirty) block.at_is dirty))) in
-          let header_new : HeaderFits want (block_at old at).bytes = subst (λ (slot : BlockSlot). HeaderFits want slot.bytes) same (seals clean) in
-          let height : block.height ≡ suc level = sym block.height_is ∙ sym header_old.level ∙ header_new.level ∙ level_is in
-          let below_clean : AreClean old (reach_below (suc level) old at) = subst (λ (n : ℕ). AreClean old (reach_below n old at)) height (clean_below block.height old at block.above was_clean) in
-          let pointers : node_pointers new at ≡ node_pointers old at = node_pointers_alike old new at same in
-          let g : Pointer → List ℕ = λ (pointer : Pointer). reach_below level old pointer.at in
-          let in_new : Contains (flat_map g (node_pointers new at)) child.at = joined_in g (node_pointers new at) place d child.at within (reach_itself level old child.at) in
-          let in_old : Contains (reach_below (suc level) old at) child.at = in_tail at child.at (flat_map g (node_pointers old at)) (subst (λ (l : List Pointer). Contains (flat_map g l) child.at) pointers in_new) in
-          let child_was_clean : (block_at old child.at).state ≢ Dirty = All-contains (λ (a : ℕ). (block_at old a).state ≢ Dirty) (reach_below (suc level) old at) child.at below_clean in_old in
-          let child_there : Contains before child.at = from child.at (block.inside child.at (subst (λ (n : ℕ). Contains (reach_below n old at) child.at) (sym height) in_old)) in
-          λ dirty. child_was_clean (sym (edit.kept child.at child_there child_here) ∙ dirty)
-    ]
+    let kept = edit.clean at here clean in
+    let there : Contains before at = kept.0 in
+    let same : block_at new at ≡ block_at old at = kept.1 in
+    let was_clean : (block_at old at).state ≢ Dirty = λ dirty. clean (edit.states at there here ∙ dirty) in
+    let block : IsFoundBelow root_level old root at = found at (to at there) in
+    let header_old : HeaderFits block.want (block_at old at).bytes = subst (λ (a : ℕ). HeaderFits block.want (block_at old a).bytes) block.at_is (block.seals (λ dirty. was_clean (subst (λ (a : ℕ). (block_at old a).state ≡ Dirty) block.at_is dirty))) in
+    let header_new : HeaderFits want (block_at old at).bytes = subst (λ (slot : BlockSlot). HeaderFits want slot.bytes) same (seals clean) in
+    let height : block.height ≡ suc level = sym block.height_is ∙ sym header_old.level ∙ header_new.level ∙ level_is in
+    let below_clean : AreClean old (reach_below (suc level) old at) = subst (λ (n : ℕ). AreClean old (reach_below n old at)) height (clean_below block.height old at block.above was_clean) in
+    let pointers : node_pointers new at ≡ node_pointers old at = node_pointers_alike old new at same in
+    let g : Pointer → List ℕ = λ (pointer : Pointer). reach_below level old pointer.at in
+    let in_new : Contains (flat_map g (node_pointers new at)) child.at = joined_in g (node_pointers new at) place d child.at within (reach_itself level old child.at) in
+    let in_old : Contains (reach_below (suc level) old at) child.at = in_tail at child.at (flat_map g (node_pointers old at)) (subst (λ (l : List Pointer). Contains (flat_map g l) child.at) pointers in_new) in
+    let child_was_clean : (block_at old child.at).state ≢ Dirty = All-contains (λ (a : ℕ). (block_at old a).state ≢ Dirty) (reach_below (suc level) old at) child.at below_clean in_old in
+    let child_there : Contains before child.at = from child.at (block.inside child.at (subst (λ (n : ℕ). Contains (reach_below n old at) child.at) (sym height) in_old)) in
+    λ dirty. child_was_clean (sym (edit.states child.at child_there child_here) ∙ dirty)
 
-edited_above : (old new : Table) (before after : List ℕ) (root_level root : ℕ) → IsEdit old new before after → ((at : ℕ) → Contains before at → Contains (reach_below root_level old root) at) → ((at : ℕ) → Contains (reach_below root_level old root) at → Contains before at)
+edited_above : (old new : Table) (before after : List ℕ) (root_level root : ℕ) → KeepsStates old new before after → ((at : ℕ) → Contains before at → Contains (reach_below root_level old root) at) → ((at : ℕ) → Contains (reach_below root_level old root) at → Contains before at)
     → ((at : ℕ) → Contains (reach_below root_level old root) at → IsFoundBelow root_level old root at)
     → (level : ℕ) (is_root : Bool) (want : Want) → want.level ≡ level → IsSubtree level new is_root want.at.0 → IsSealedSubtree level new want → ((at : ℕ) → Contains (reach_below level new want.at.0) at → Contains after at) → DirtyIsAbove level new want.at.0
 edited_above old new before after root_level root edit to from found zero is_root want level_is shape seals inside = tt
@@ -148,6 +160,10 @@ edited_above old new before after root_level root edit to from found (suc level)
     ] in
     (first, edited_above old new before after root_level root edit to from found level false (child_want want p level) refl child.0 (seals.1 pointers body i d within) up)
 
+pub kept_dirty_above : (old new : Table) (before after : Tree) (fsid : List ℕ) (was is : ℕ) → KeepsStates old new (tree_reach old before) (tree_reach new after) → IsTree old before → IsTree new after → IsSealedTree old before fsid was → IsSealedTree new after fsid is → IsDirtyAbove old before → IsDirtyAbove new after
+kept_dirty_above old new before after fsid was is kept tree_old tree_new seals_old seals_new above =
+    edited_above old new (tree_reach old before) (tree_reach new after) before.level before.root.0 kept (λ at k. k) (λ at k. k) (λ at there. found_below before.level old true (root_want before fsid was) at refl tree_old.shape above seals_old there) after.level true (root_want after fsid is) refl tree_new.shape seals_new (λ at k. k)
+
 pub an_edit_keeps_dirty_above : (old new : Table) (before after : Tree) (fsid : List ℕ) (was is : ℕ) → IsEdit old new (tree_reach old before) (tree_reach new after) → IsTree old before → IsTree new after → IsSealedTree old before fsid was → IsSealedTree new after fsid is → IsDirtyAbove old before → IsDirtyAbove new after
 an_edit_keeps_dirty_above old new before after fsid was is edit tree_old tree_new seals_old seals_new above =
-    edited_above old new (tree_reach old before) (tree_reach new after) before.level before.root.0 edit (λ at k. k) (λ at k. k) (λ at there. found_below before.level old true (root_want before fsid was) at refl tree_old.shape above seals_old there) after.level true (root_want after fsid is) refl tree_new.shape seals_new (λ at k. k)
+    kept_dirty_above old new before after fsid was is (edit_keeps_states old new (tree_reach old before) (tree_reach new after) edit) tree_old tree_new seals_old seals_new above
