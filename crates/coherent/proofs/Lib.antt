@@ -1,0 +1,9 @@
+pub mod Lists
+pub mod Amounts
+pub mod Names
+pub mod Directories
+pub mod Records
+pub mod Right
+pub mod Passing
+pub mod Surveys
+pub mod Seen
