@@ -37,7 +37,8 @@ pub fn bare_states(
     ensures given { IfOk result (λ states. GiveVolume table.new states.items (mounted (bare_volume subs))) }
     ensures running { IfOk result (λ states. All (λ state. state.running ≡ running) states.items) }
     ensures edit { IfOk result (λ states. IsEdit table.old table.new [] (flat_map (λ state. sub_reach table.new state.tree) states.items)) }
-    ensures accounted { AreAccounted table.old [] → IfOk result (λ states. AreAccounted table.new (flat_map (λ state. sub_reach table.new state.tree) states.items)) }
+    ensures accounted { AreAccounted table.old []
+        → IfOk result (λ states. AreAccounted table.new (flat_map (λ state. sub_reach table.new state.tree) states.items)) }
     ensures taken { TakesAtMost table.old table.new (35 * subs) }
     ensures err { OnErr result (table.new ≡ table.old) }
 {

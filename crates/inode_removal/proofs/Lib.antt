@@ -1,4 +1,4 @@
-mod Counting
-mod OwnItems
+pub mod Counting
+pub mod OwnItems
 mod Few
 mod Gone
