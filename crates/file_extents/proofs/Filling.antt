@@ -1,5 +1,5 @@
 -- A hole of a file that gets a block, as an edit of its extents.
-use Rattle.std.proofs.Common.{◌≡◌, ◌≢◌, ◌⊎◌, ◌<◌, ◌+◌, ◌*◌, ◌++◌, ℕ, List, [], ◌∷◌, Option, Some, None, Ok, refl, sym, ap, subst, ◌∙◌, arith, inl, inr, append_assoc}
+use Rattle.std.proofs.Common.{◌≡◌, ◌≢◌, ◌↔◌, ◌⊎◌, ◌<◌, ◌+◌, ◌*◌, ◌++◌, ℕ, List, [], ◌∷◌, Option, Some, None, Ok, refl, sym, ap, subst, ◌∙◌, arith, inl, inr, append_assoc}
 use Rattle.std.specs.Prelude.{All, Contains}
 use Rattle.std.proofs.lemmas.List.{append-nil}
 use Rattle.std.proofs.lemmas.List.Elements.{All-append, All-cons, All-contains, All-nil, Contains-append_left, Contains-append_right}
@@ -225,6 +225,13 @@ module _ (old mid new : Table) (tree after : Tree) (running ino number a begin a
 
   pub fill_run : HasRun (tree_items new after) ino begin at blocks
   fill_run = (are_written items (tree_items new after) ino begin at blocks said items_now read).here
+
+  pub fill_others : (b x c : ℕ) → b ≢ begin → HasRun (tree_items new after) ino b x c ↔ HasRun items ino b x c
+  fill_others b x c other =
+      let w = are_written items (tree_items new after) ino begin at blocks said items_now read in (
+        λ r. elim (w.from b x c r) [ inl same ↦ absurd (other same.0) | inr old ↦ old.1 ],
+        λ r. w.stays b x c other r,
+      )
 
   new_block : data_in new (at + 4096 * count) ≡ Some content
   new_block =

@@ -118,8 +118,9 @@ abbrev pub IsBeside : ℕ → Key → Type 0
 IsBeside ino key = key.objectid ≡ ino → key.kind ≡ extent_data → ⊥
 
 -- An edit of the extents of one file, behind which the tree stands elsewhere: every other item stays, and so does each of their data blocks;
--- the data blocks of the file that are new were Free and are Dirty, and those that it has no more are let go. Tree blocks that aren't Dirty stood in the
--- tree before, as they stand; where the headers of the tree's blocks were right they are; what is new bears this generation; and it takes at most so many blocks and buffers more than it gives back (own).
+-- the data blocks of the file that are new were Free and are Dirty, and those that it has no more are let go. Tree blocks that aren't Dirty stood in
+-- the tree before, as they stand; where the headers of the tree's blocks were right they are; what is new bears this generation; and it takes at
+-- most so many blocks and buffers more than it gives back (own).
 pub record IsContentEdit (old new : Table) (before after : Tree) (running ino most : ℕ) : Type 0 where
   pub held : IsHeld new after
   pub owner : after.owner ≡ before.owner

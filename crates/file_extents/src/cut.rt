@@ -13,8 +13,8 @@ use block_table::{BlockTable, Tree};
 use file_blocks::last_extent;
 use item_extent::Extent;
 
-/// The last run of a file that begins with a block or in front of it, where there is one.
-fn last_run(table: &BlockTable, tree: &Tree, ino: Ino, number: u64) -> Option<Run>
+/// The last run of a file that begins with a block or in front of it, where there is one ("EXTENT_DATA" of the on-disk format).
+pub fn last_run(table: &BlockTable, tree: &Tree, ino: Ino, number: u64) -> Option<Run>
     requires tree { IsTree table.now tree.now }
     requires small { number < 2 ^ 52 }
     ensures { (blocks : Data) (contents : Contents) → HoldContents (tree_items table.now tree.now) blocks ino.0 contents

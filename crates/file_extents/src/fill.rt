@@ -1,5 +1,5 @@
 //! A hole of a file that gets a block.
-ghost use Rattle.std.specs.Prelude.{◌≡◌, ◌⊎◌, ◌≤◌, ◌<◌, ◌+◌, ◌*◌, ◌^◌, ◌∷◌, [], ℕ, None};
+ghost use Rattle.std.specs.Prelude.{◌≡◌, ◌≢◌, ◌↔◌, ◌⊎◌, ◌≤◌, ◌<◌, ◌+◌, ◌*◌, ◌^◌, ◌∷◌, [], ℕ, None};
 ghost use Rattle.block_table.specs.Table.{free_blocks};
 ghost use Rattle.block_table.specs.TreeIn.{block_at};
 ghost use Rattle.tree_blocks.specs.Steps.{IsSameBut, IsTakenAt};
@@ -54,8 +54,8 @@ fn joined(front: Run, number: u64, at: Addr) -> Run
 }
 
 /// Gives a block of a file that is a hole a new block with these bytes, which is Dirty then. The run in front of it that it
-/// follows on grows by it; where there is none, `front` has no block. It answers the run that the block is in, and takes 18
-/// blocks and buffers at most.
+/// follows on grows by it; where there is none, `front` has no block. It answers the run that the block is in, all others stay,
+/// and it takes 18 blocks and buffers at most.
 pub fn put_block(
     table: &mut BlockTable,
     tree: &mut Tree,
@@ -75,6 +75,8 @@ pub fn put_block(
     ensures contents { (contents : Contents) → HoldContents (tree_items table.old tree.old) (data_in table.old) ino.0 contents → contents number ≡ None
         → HoldContents (tree_items table.new tree.new) (data_in table.new) ino.0 (with_block contents number content.now) }
     ensures run { HasRun (tree_items table.new tree.new) ino.0 result.begin result.at.0 result.blocks }
+    ensures others { (begin at count : ℕ) → begin ≢ result.begin
+        → HasRun (tree_items table.new tree.new) ino.0 begin at count ↔ HasRun (tree_items table.old tree.old) ino.0 begin at count }
     ensures joined { (at : ℕ) × Joins front.begin front.at.0 front.blocks number at result.begin result.at.0 result.blocks }
 {
     let at = fresh(table, content);

@@ -12,5 +12,6 @@ mod fill;
 mod run;
 
 pub use clear::clear_blocks;
+pub use cut::last_run;
 pub use fill::put_block;
 pub use run::Run;
