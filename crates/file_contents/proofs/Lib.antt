@@ -1,0 +1,9 @@
+pub mod Bytes
+pub mod Counting
+pub mod Files
+pub mod Given
+pub mod Making
+pub mod Puts
+pub mod Rewriting
+pub mod Runs
+pub mod Writing
