@@ -2,12 +2,12 @@
 use Rattle.std.proofs.Common.{◌≡◌, ◌≢◌, ◌⊎◌, ℕ, List, Result, Ok, Err, inl, inr, ap}
 use Rattle.std.specs.Prelude.{IfErr}
 use Rattle.foreign_format.specs.declared.entry.EntryKind.{EntryKind}
-use Rattle.foreign_format.specs.declared.entry.EntryKind.TheVariants.{File, Dir, Chr, Blk, Fifo, Sock, Link, Sub}
+use Rattle.foreign_format.specs.declared.entry.EntryKind.TheVariants.{Dir, Chr, Blk, Fifo, Sock}
 use Rattle.foreign_format.specs.declared.fault.ReadFault.{ReadFault}
 use Rattle.foreign_format.specs.declared.fault.ReadFault.TheVariants.{Disk}
 use Rattle.foreign_format.specs.Answer.{Answers, answers_same}
 use Rattle.foreign_tree.specs.Tree.{VolumeValue}
-use Rattle.foreign_listing.specs.Lines.{TreeValue, file_line, line_by, line_of, link_line, plain_line, sub_line}
+use Rattle.foreign_listing.specs.Lines.{TreeValue, line_by, line_of, plain_line}
 use Rattle.foreign_listing.specs.Names.{Place}
 
 -- an answer of the line of this kind

@@ -1,5 +1,5 @@
 -- The bytes of an inline extent, which no item of a disk has past the disk's end.
-use Rattle.std.proofs.Common.{◌≡◌, ◌≤◌, ◌+◌, ◌-◌, ◌*◌, ◌++◌, min, ℕ, List, [], ◌∷◌, length, take, drop, Option, Result, Ok, Err, Vec, Global, refl, sym, ap, ◌∙◌, arith, inl, inr, length-append}
+use Rattle.std.proofs.Common.{◌≡◌, ◌-◌, ◌*◌, min, ℕ, List, [], ◌∷◌, length, take, drop, Option, Result, Ok, Err, refl, sym, ap, ◌∙◌, arith, inl, inr, length-append}
 use Rattle.std.specs.Prelude.{IfErr, IfOk}
 use Rattle.std.proofs.Math.ListN.{drop_of_length-le}
 use Rattle.std.proofs.lemmas.Bool.{cases_lt}
@@ -7,7 +7,6 @@ use Rattle.std.proofs.lemmas.List.{length-drop, take_all}
 use Rattle.std.proofs.lemmas.List.Elements.{All-head, All-tail}
 use Rattle.blk_base.specs.Bytes.{Image, IsBlock, IsImage, bytes_at}
 use Rattle.disk_model.specs.Disk.{IfTold}
-use Rattle.foreign_format.specs.declared.fault.ForeignFault.{ForeignFault}
 use Rattle.foreign_format.specs.declared.fault.ReadFault.{ReadFault}
 use Rattle.foreign_format.specs.declared.fault.ReadFault.TheVariants.{Foreign, Disk, OutOfMemory}
 use Rattle.foreign_format.specs.Answer.{Answers}

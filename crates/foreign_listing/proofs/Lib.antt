@@ -4,3 +4,7 @@ mod Rows
 mod Inline
 mod ByKind
 mod Subvolumes
+mod Reaches
+mod Filtered
+mod Forest
+mod Volumes

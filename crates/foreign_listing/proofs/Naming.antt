@@ -1,19 +1,19 @@
 -- Names put in the order of their bytes, and the rows of a directory taken out of others.
-use Rattle.std.proofs.Common.{◌≡◌, ◌≤◌, ◌<◌, ◌+◌, ◌++◌, ℕ, zero, suc, Bool, true, false, not, cond, List, [], ◌∷◌, map, filter, length, drop, insert, get_or, reverse, codes, Result, Ok, Err, refl, sym, ap, ◌∙◌, arith, append-nil, append_assoc}
-use Rattle.std.specs.Prelude.{◌==◌}
-use Rattle.std.proofs.lemmas.List.{map-append, reverse-append}
+use Rattle.std.proofs.Common.{◌≡◌, ◌<◌, ◌+◌, ◌++◌, ℕ, zero, suc, Bool, true, false, not, cond, List, [], ◌∷◌, map, filter, length, drop, insert, get_or, Ok, Err, refl, sym, ap, ◌∙◌, arith, append-nil, append_assoc}
+use Rattle.std.specs.Prelude.{if◌then◌else◌}
+use Rattle.std.proofs.lemmas.List.{map-append}
 use Rattle.std.proofs.lemmas.List.Elements.{filter-append}
 use Rattle.blk_base.specs.declared.fault.ItemFault.{ItemFault}
-use Rattle.foreign_format.specs.declared.fault.ForeignFault.{ForeignFault}
 use Rattle.foreign_format.specs.declared.fault.ForeignFault.TheVariants.{Item}
-use Rattle.foreign_format.specs.Answer.{and_then}
+use Rattle.format_laws.specs.Checks.{same_ok}
 use Rattle.foreign_format.specs.Items.{EntryValue}
+use Rattle.foreign_tree.proofs.Trees.{and_then_ok}
 use Rattle.foreign_format.proofs.Rows.{drop_at, drop_past}
 use Rattle.foreign_items.specs.declared.rows.Name.{Name}
 use Rattle.foreign_items.specs.declared.rows.NameRow.{NameRow}
 use Rattle.foreign_items.specs.Rows.{NameValue}
-use Rattle.foreign_items.specs.View.{name_view, name_value}
-use Rattle.foreign_listing.specs.Names.{Place, at_row, bytes_below, in_byte_order, is_of, place_below, places_below, put_entry, rows_beside, rows_of}
+use Rattle.foreign_items.specs.View.{name_view}
+use Rattle.foreign_listing.specs.Names.{Place, at_row, bytes_below, in_byte_order, place_below, places_below, put_entry}
 use Rattle.foreign_listing.specs.View.{entry_view}
 
 -- ---- the place of a name
@@ -51,6 +51,27 @@ order_more names row name rows is = rw is refl
 pub order_bad : (names : List EntryValue) (row : NameRow) (fault : ItemFault) (rows : List NameValue) → row.name ≡ Err fault → in_byte_order names (name_view row ∷ rows) ≡ Err (Item row.leaf row.key fault)
 unfolding in_byte_order
 order_bad names row fault rows is = rw is refl
+
+-- an entry more
+put_length : (entry : EntryValue) (entries : List EntryValue) → length (put_entry entry entries) ≡ suc (length entries)
+unfolding put_entry
+put_length entry [] = refl
+put_length entry (other ∷ others) = elim (bytes_below entry.name other.name) as (λ b. length (if b then entry ∷ other ∷ others else other ∷ put_entry entry others) ≡ suc (suc (length others))) [
+  | true ↦ refl
+  | false ↦ let rest = put_length entry others in omega (arith, rest)
+]
+
+-- there are as many names as rows
+pub ordered_length : (entries : List EntryValue) (rows : List NameValue) (names : List EntryValue) → in_byte_order entries rows ≡ Ok names → length names ≡ length entries + length rows
+unfolding in_byte_order
+ordered_length entries [] names h =
+    let same = ap length (same_ok h) in
+    omega (arith, same)
+ordered_length entries (row ∷ rows) names h =
+    let step = and_then_ok (at_row row.leaf row.key row.entry) (λ entry. in_byte_order (put_entry entry entries) rows) names h in
+    let rest = ordered_length (put_entry step.0 entries) rows names step.2 in
+    let more = put_length step.0 entries in
+    omega (arith, rest, more)
 
 -- ---- by places
 

@@ -1,9 +1,8 @@
 -- Inodes and extents found among rows, one row behind the other.
-use Rattle.std.proofs.Common.{◌≡◌, ◌≤◌, ◌<◌, ◌+◌, ◌++◌, ℕ, Bool, true, false, List, [], ◌∷◌, length, drop, get_or, Result, Ok, Err, refl, sym, ap, ◌∙◌, arith, nat_lt, lt-ltb, le-ltb}
-use Rattle.std.specs.Prelude.{◌==◌, ◌&&◌, if◌then◌else◌}
+use Rattle.std.proofs.Common.{◌≡◌, ◌≤◌, ◌<◌, ◌+◌, ◌++◌, ℕ, true, false, List, [], ◌∷◌, length, drop, get_or, Ok, Err, refl, sym, ap, ◌∙◌, arith, lt-ltb, le-ltb}
+use Rattle.std.specs.Prelude.{◌==◌}
 use Rattle.foreign_format.specs.declared.extent.Extent.{Extent}
 use Rattle.foreign_format.specs.declared.fault.ForeignFault.{ForeignFault}
-use Rattle.foreign_format.specs.declared.inode.Inode.{Inode}
 use Rattle.foreign_format.specs.Answer.{and_then, then_err, then_ok}
 use Rattle.foreign_format.specs.Items.{length_of}
 use Rattle.foreign_format.proofs.Rows.{drop_here}

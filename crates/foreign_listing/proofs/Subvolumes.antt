@@ -1,14 +1,12 @@
 -- The listing of subvolumes, one behind the other.
-use Rattle.std.proofs.Common.{◌≡◌, ◌<◌, ◌+◌, ℕ, List, [], ◌∷◌, length, map, drop, get_or, Result, Ok, Err, refl, sym, ap, ◌∙◌}
+use Rattle.std.proofs.Common.{◌≡◌, ◌<◌, ◌+◌, ℕ, List, [], ◌∷◌, length, drop, get_or, Result, Ok, Err, refl, sym, ap, ◌∙◌}
 use Rattle.blk_base.specs.Bytes.{Image}
 use Rattle.foreign_format.specs.declared.fault.ForeignFault.{ForeignFault}
 use Rattle.foreign_format.specs.declared.fault.ReadFault.{ReadFault}
 use Rattle.foreign_format.specs.declared.fault.ReadFault.TheVariants.{Foreign, Disk, OutOfMemory}
 use Rattle.foreign_format.specs.Answer.{Answers, and_then, answers_err, answers_same, then_err, then_ok}
 use Rattle.foreign_format.proofs.Rows.{drop_here}
-use Rattle.foreign_items.specs.declared.items.SubvolumeItems.{SubvolumeItems}
 use Rattle.foreign_items.specs.Rows.{ItemsValue, items_of}
-use Rattle.foreign_items.specs.View.{items_value, name_view}
 use Rattle.foreign_tree.specs.Tree.{VolumeValue, disk_bytes}
 use Rattle.foreign_volume.specs.declared.roots.Subvolume.{Subvolume}
 use Rattle.foreign_volume.specs.Opened.{OpenedValue, opened_of}
@@ -33,7 +31,7 @@ sub_ok view result volume disk sub listed headed items read is h =
 
 -- ---- subvolumes
 
-subs_here : (volume : VolumeValue) (disk : List ℕ) (sub : Subvolume) (subs : List Subvolume) (listed : Listed) → subs_listed volume disk (sub ∷ subs) listed ≡ and_then (sub_listed volume disk sub listed) (subs_listed volume disk subs)
+pub subs_here : (volume : VolumeValue) (disk : List ℕ) (sub : Subvolume) (subs : List Subvolume) (listed : Listed) → subs_listed volume disk (sub ∷ subs) listed ≡ and_then (sub_listed volume disk sub listed) (subs_listed volume disk subs)
 unfolding subs_listed
 subs_here volume disk sub subs listed = refl
 

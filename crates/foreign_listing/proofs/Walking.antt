@@ -1,9 +1,8 @@
 -- The walk over a subvolume's names, step by step.
-use Rattle.std.proofs.Common.{◌≡◌, ◌+◌, ◌++◌, ℕ, zero, suc, Bool, true, false, List, [], ◌∷◌, map, reverse, length, Option, Some, Result, Ok, Err, Vec, Global, refl, sym, ap, subst, ◌∙◌, arith}
+use Rattle.std.proofs.Common.{◌≡◌, ◌+◌, ◌++◌, ℕ, zero, suc, true, false, List, [], ◌∷◌, map, length, Option, Some, Result, Ok, Err, Vec, Global, refl, sym, ap, subst, ◌∙◌, arith}
 use Rattle.std.specs.Prelude.{IfErr, MatchOption, None, OnOk, option_to_list}
-use Rattle.std.proofs.lemmas.List.{map-append, reverse-append}
+use Rattle.std.proofs.lemmas.List.{reverse-append}
 use Rattle.format_laws.specs.Checks.{finds, finds_none}
-use Rattle.foreign_format.specs.declared.entry.EntryKind.{EntryKind}
 use Rattle.foreign_format.specs.declared.fault.ForeignFault.{ForeignFault}
 use Rattle.foreign_format.specs.declared.fault.ReadFault.{ReadFault}
 use Rattle.foreign_format.specs.declared.fault.ReadFault.TheVariants.{Foreign, Disk, OutOfMemory}
@@ -24,12 +23,12 @@ use Rattle.foreign_listing.specs.View.{HasNames, IsBetween, IsVisited, listed_vi
 
 -- ---- steps
 
-all_done : (n : ℕ) (volume : VolumeValue) (disk : List ℕ) (tree : TreeValue) (before : Between) → visit_all n volume disk tree [] before ≡ Ok before.listed
+pub all_done : (n : ℕ) (volume : VolumeValue) (disk : List ℕ) (tree : TreeValue) (before : Between) → visit_all n volume disk tree [] before ≡ Ok before.listed
 unfolding visit_all
 all_done zero volume disk tree before = refl
 all_done (suc n) volume disk tree before = refl
 
-next_place : (n : ℕ) (volume : VolumeValue) (disk : List ℕ) (tree : TreeValue) (place : Place) (pending : List Place) (before : Between)
+pub next_place : (n : ℕ) (volume : VolumeValue) (disk : List ℕ) (tree : TreeValue) (place : Place) (pending : List Place) (before : Between)
     → visit_all (suc n) volume disk tree (place ∷ pending) before ≡ and_then (visit volume disk tree place before) (λ after. visit_all n volume disk tree (after.below ++ pending) after.between)
 unfolding visit_all
 next_place n volume disk tree place pending before = refl
@@ -164,7 +163,7 @@ pub enter_twice : (old new : Walk) (volume : VolumeValue) (disk : List ℕ) (tre
     → IsVisited old new (Err (Foreign fault)) (enter volume disk tree place before)
 enter_twice old new volume disk tree place before fault twice is = finds _ _ _ twice ∙ ap Err (sym is)
 
-enter_first : (volume : VolumeValue) (disk : List ℕ) (tree : TreeValue) (place : Place) (before : Between) → was_reached place.to before.reached ≡ false
+pub enter_first : (volume : VolumeValue) (disk : List ℕ) (tree : TreeValue) (place : Place) (before : Between) → was_reached place.to before.reached ≡ false
     → enter volume disk tree place before ≡ and_then (line_of volume disk tree place) (λ line. entered place line before)
 enter_first volume disk tree place before first = finds_none _ _ _ first
 

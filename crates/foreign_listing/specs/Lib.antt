@@ -3,3 +3,4 @@ pub mod Lines
 pub mod Walk
 pub mod Listing
 pub mod View
+pub mod Foreign

@@ -1,5 +1,5 @@
 -- The line of a name: what a listing shows of the inode or subvolume to which it leads.
-use Rattle.std.specs.Prelude.{ℕ, ◌+◌, ◌==◌, Bool, true, false, ◌&&◌, nat_lt, List, [], ◌∷◌, ◌++◌, codes, Result, Ok, Err, if◌then◌else◌}
+use Rattle.std.specs.Prelude.{ℕ, ◌+◌, ◌==◌, Bool, true, false, ◌&&◌, nat_lt, min, List, [], ◌∷◌, ◌++◌, codes, Result, Ok, Err, if◌then◌else◌}
 use Rattle.std.specs.Fmt.{decimal}
 use Rattle.blk_base.specs.Bytes.{bytes_at}
 use Rattle.io_edge.specs.Printed.{hex8, printed}
@@ -9,7 +9,7 @@ use Rattle.foreign_format.specs.declared.extent.Coding.{Coding}
 use Rattle.foreign_format.specs.declared.extent.Coding.TheVariants as coding
 use Rattle.foreign_format.specs.declared.extent.Extent.{Extent}
 use Rattle.foreign_format.specs.declared.extent.Source.{Source}
-use Rattle.foreign_format.specs.declared.extent.Source.TheVariants.{Inline, Regular, Zeros}
+use Rattle.foreign_format.specs.declared.extent.Source.TheVariants.{Inline}
 use Rattle.foreign_format.specs.declared.fault.ForeignFault.{ForeignFault}
 use Rattle.foreign_format.specs.declared.fault.ForeignFault.TheVariants.{Incoherent}
 use Rattle.foreign_format.specs.declared.inode.Inode.{Inode}
@@ -50,7 +50,8 @@ inode_in sub (row ∷ rows) ino = if is_item_of row ino then at_row row.leaf row
 unfoldable pub extents_from : List Extent → List ExtentRow → ℕ → Result (List Extent) ForeignFault
 extents_from extents [] ino = Ok extents
 extents_from extents (row ∷ rows) ino =
-    if row.key.objectid == ino then and_then (at_row row.leaf row.key row.extent) (λ extent. extents_from (extents ++ extent ∷ []) rows ino) else extents_from extents rows ino
+    if row.key.objectid == ino then and_then (at_row row.leaf row.key row.extent) (λ extent. extents_from (extents ++ extent ∷ []) rows ino) else
+    extents_from extents rows ino
 
 -- each extent begins at or behind the end of the one before it
 unfoldable pub are_apart : ℕ → List Extent → Bool
@@ -67,16 +68,16 @@ extents_of tree ino = and_then (extents_from [] tree.extents ino) (if_apart tree
 
 -- ---- symlinks
 
--- the bytes of one plain inline extent
-abbrev pub inline_bytes : List ℕ → ℕ → ℕ → Coding → Source → Result (List ℕ) ForeignFault
-inline_bytes disk sub ino coding.Plain (Inline at length) = Ok (bytes_at length disk at)
-inline_bytes disk sub ino coding source = Err (incoherent sub ino)
+-- the bytes of one plain inline extent, up to this size
+abbrev pub inline_bytes : List ℕ → ℕ → ℕ → ℕ → Coding → Source → Result (List ℕ) ForeignFault
+inline_bytes disk sub ino size coding.Plain (Inline at length) = Ok (bytes_at (min length size) disk at)
+inline_bytes disk sub ino size coding source = Err (incoherent sub ino)
 
--- a symlink's target, which is the one plain inline extent that it has
-abbrev pub target_in : List ℕ → ℕ → ℕ → List Extent → Result (List ℕ) ForeignFault
-target_in disk sub ino [] = Err (incoherent sub ino)
-target_in disk sub ino (extent ∷ []) = inline_bytes disk sub ino extent.coding extent.source
-target_in disk sub ino (extent ∷ other ∷ others) = Err (incoherent sub ino)
+-- the target of a symlink of this size, which is the one plain inline extent that it has; some makers put a zero behind it
+abbrev pub target_in : List ℕ → ℕ → ℕ → ℕ → List Extent → Result (List ℕ) ForeignFault
+target_in disk sub ino size [] = Err (incoherent sub ino)
+target_in disk sub ino size (extent ∷ []) = inline_bytes disk sub ino size extent.coding extent.source
+target_in disk sub ino size (extent ∷ other ∷ others) = Err (incoherent sub ino)
 
 -- ---- lines
 
@@ -114,7 +115,8 @@ sub_line place = decimal place.to ++ codes " sub - - - " ++ path_shown place.pat
 -- the line of an inode, with this in the place of its sum and this behind its path (own)
 unfoldable pub inode_line : Place → Inode → List ℕ → List ℕ → List ℕ
 inode_line place inode sum behind =
-    word (decimal place.to) ++ word (kind_word place.kind) ++ word (decimal inode.links) ++ word (decimal inode.size) ++ word sum ++ path_shown place.path ++ behind ++ codes "\n"
+    word (decimal place.to) ++ word (kind_word place.kind) ++ word (decimal inode.links) ++ word (decimal inode.size) ++ word sum
+    ++ path_shown place.path ++ behind ++ codes "\n"
 
 -- the line of an inode without bytes that are shown
 abbrev pub plain_line : TreeValue → Place → Result (List ℕ) ForeignFault
@@ -133,7 +135,7 @@ abbrev pub link_line : List ℕ → TreeValue → Place → Result (List ℕ) Fo
 link_line disk tree place =
     and_then (inode_in tree.sub tree.inodes place.to) (λ inode.
     and_then (extents_of tree place.to) (λ extents.
-    and_then (target_in disk tree.sub place.to extents) (λ target.
+    and_then (target_in disk tree.sub place.to inode.size extents) (λ target.
     Ok (inode_line place inode (codes "-") (codes " " ++ printed target)))))
 
 -- the line of what stands at a place, by the kind of its entry, or the first fault

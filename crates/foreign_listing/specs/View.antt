@@ -52,7 +52,8 @@ HasNames path to old new (Err OutOfMemory) = Unit {0}
 -- is the first. Where the disk failed, or memory, nothing is said.
 abbrev pub IsVisited : Walk → Walk → Result (Unit {0}) ReadFault → Result Visited ForeignFault → Type 0
 IsVisited old new (Ok _) defined =
-    (after : Visited) × (defined ≡ Ok after) × IsBetween new after.between × (pending_view new.pending.items ≡ after.below ++ pending_view old.pending.items)
+    (after : Visited) × (defined ≡ Ok after) × IsBetween new after.between
+    × (pending_view new.pending.items ≡ after.below ++ pending_view old.pending.items)
 IsVisited old new (Err (Foreign fault)) defined = defined ≡ Err fault
 IsVisited old new (Err Disk) defined = Unit {0}
 IsVisited old new (Err OutOfMemory) defined = Unit {0}

@@ -81,7 +81,8 @@ fn read_inline<D: Disk>(
     at: u64,
     length: u64,
 ) -> Result<Vec<u8>, ReadFault>
-    ensures answer { IfTold (known (D.seen disk.old) (D.lost disk.old)) (λ image. Answers (λ bytes. bytes.items) result (Ok (bytes_at length (disk_bytes image) at))) }
+    ensures answer { IfTold (known (D.seen disk.old) (D.lost disk.old)) (λ image.
+        Answers (λ bytes. bytes.items) result (Ok (bytes_at length (disk_bytes image) at))) }
     ensures disk_fault { (result ≡ Err ReadFault.Disk) → HasRisen (D.faults disk.old) (D.faults disk.new) }
     ensures size { D.count disk.new ≡ D.count disk.old }
     ensures seen { D.seen disk.new ≡ D.seen disk.old }
@@ -94,15 +95,17 @@ fn read_inline<D: Disk>(
     read_part(alloc, disk, at.min(disk_size), there as usize)
 }
 
-/// A symlink's target, which is the one plain inline extent that it has.
+/// The target of a symlink of this size, which is the one plain inline extent that it has. Some makers put a zero behind it.
 pub(crate) fn target_of<D: Disk>(
     alloc: Global,
     disk: &mut D,
     sub: u64,
     ino: u64,
+    size: u64,
     extents: &[Extent],
 ) -> Result<Vec<u8>, ReadFault>
-    ensures answer { IfTold (known (D.seen disk.old) (D.lost disk.old)) (λ image. Answers (λ bytes. bytes.items) result (target_in (disk_bytes image) sub ino extents.now)) }
+    ensures answer { IfTold (known (D.seen disk.old) (D.lost disk.old)) (λ image.
+        Answers (λ bytes. bytes.items) result (target_in (disk_bytes image) sub ino size extents.now)) }
     ensures disk_fault { (result ≡ Err ReadFault.Disk) → HasRisen (D.faults disk.old) (D.faults disk.new) }
     ensures size { D.count disk.new ≡ D.count disk.old }
     ensures seen { D.seen disk.new ≡ D.seen disk.old }
@@ -117,7 +120,7 @@ pub(crate) fn target_of<D: Disk>(
                 source: Source::Inline { at, length },
                 ..
             },
-        ] => read_inline(alloc, disk, *at, *length),
+        ] => read_inline(alloc, disk, *at, (*length).min(size)),
         _ => Err(ReadFault::Foreign(incoherent(sub, ino))),
     }
 }

@@ -6,6 +6,7 @@
 
 mod extents;
 mod inodes;
+pub mod laws;
 mod lines;
 mod listing;
 mod names;

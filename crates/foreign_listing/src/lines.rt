@@ -146,7 +146,8 @@ fn file_line<D: Disk>(
     place: &Place,
 ) -> Result<Vec<u8>, ReadFault>
     requires { All (IsOnDisk (4096 * D.count disk.old)) volume.now.chunks.items }
-    ensures answer { IfTold (known (D.seen disk.old) (D.lost disk.old)) (λ image. Answers (λ line. line.items) result (file_line (volume_value volume.now) (disk_bytes image) (tree_value tree.now) (place_view place.now))) }
+    ensures answer { IfTold (known (D.seen disk.old) (D.lost disk.old)) (λ image.
+        Answers (λ line. line.items) result (file_line (volume_value volume.now) (disk_bytes image) (tree_value tree.now) (place_view place.now))) }
     ensures disk_fault { (result ≡ Err ReadFault.Disk) → HasRisen (D.faults disk.old) (D.faults disk.new) }
     ensures size { D.count disk.new ≡ D.count disk.old }
     ensures seen { D.seen disk.new ≡ D.seen disk.old }
@@ -178,7 +179,8 @@ fn link_line<D: Disk>(
     tree: &Tree,
     place: &Place,
 ) -> Result<Vec<u8>, ReadFault>
-    ensures answer { IfTold (known (D.seen disk.old) (D.lost disk.old)) (λ image. Answers (λ line. line.items) result (link_line (disk_bytes image) (tree_value tree.now) (place_view place.now))) }
+    ensures answer { IfTold (known (D.seen disk.old) (D.lost disk.old)) (λ image.
+        Answers (λ line. line.items) result (link_line (disk_bytes image) (tree_value tree.now) (place_view place.now))) }
     ensures disk_fault { (result ≡ Err ReadFault.Disk) → HasRisen (D.faults disk.old) (D.faults disk.new) }
     ensures size { D.count disk.new ≡ D.count disk.old }
     ensures seen { D.seen disk.new ≡ D.seen disk.old }
@@ -188,7 +190,7 @@ fn link_line<D: Disk>(
 {
     let inode = inode_at(tree, place)?;
     let extents = extents_of(alloc, tree, place.to)?;
-    let target = target_of(alloc, disk, tree.sub, place.to, &extents)?;
+    let target = target_of(alloc, disk, tree.sub, place.to, inode.size, &extents)?;
     let behind = behind_space(alloc, &target)?;
     Ok(inode_line(alloc, place, inode, b"-", &behind)?)
 }
@@ -203,7 +205,8 @@ pub(crate) fn line_of<D: Disk>(
     place: &Place,
 ) -> Result<Vec<u8>, ReadFault>
     requires { All (IsOnDisk (4096 * D.count disk.old)) volume.now.chunks.items }
-    ensures answer { IfTold (known (D.seen disk.old) (D.lost disk.old)) (λ image. Answers (λ line. line.items) result (line_of (volume_value volume.now) (disk_bytes image) (tree_value tree.now) (place_view place.now))) }
+    ensures answer { IfTold (known (D.seen disk.old) (D.lost disk.old)) (λ image.
+        Answers (λ line. line.items) result (line_of (volume_value volume.now) (disk_bytes image) (tree_value tree.now) (place_view place.now))) }
     ensures disk_fault { (result ≡ Err ReadFault.Disk) → HasRisen (D.faults disk.old) (D.faults disk.new) }
     ensures size { D.count disk.new ≡ D.count disk.old }
     ensures seen { D.seen disk.new ≡ D.seen disk.old }

@@ -48,7 +48,8 @@ fn list_sub<D: Disk>(
     requires least { 4096 ≤ volume.now.node_size }
     requires most { volume.now.node_size ≤ 65536 }
     requires room { listed.lines + 2 ^ 64 < 2 ^ 128 }
-    ensures answer { IfTold (known (D.seen disk.old) (D.lost disk.old)) (λ image. Answers listed_view result (sub_listed (volume_value volume.now) (disk_bytes image) sub.now (listed_view listed))) }
+    ensures answer { IfTold (known (D.seen disk.old) (D.lost disk.old)) (λ image.
+        Answers listed_view result (sub_listed (volume_value volume.now) (disk_bytes image) sub.now (listed_view listed))) }
     ensures lines { IfOk result (λ after. after.lines ≤ listed.lines + 2 ^ 64) }
     ensures disk_fault { (result ≡ Err ReadFault.Disk) → HasRisen (D.faults disk.old) (D.faults disk.new) }
     ensures size { D.count disk.new ≡ D.count disk.old }
@@ -77,7 +78,8 @@ fn list_subs<D: Disk>(
     requires on_disk { All (IsOnDisk (size_of (D.count disk.old))) volume.now.chunks.items }
     requires least { 4096 ≤ volume.now.node_size }
     requires most { volume.now.node_size ≤ 65536 }
-    ensures answer { IfTold (known (D.seen disk.old) (D.lost disk.old)) (λ image. Answers listed_view result (subs_listed (volume_value volume.now) (disk_bytes image) subs.now nothing_listed)) }
+    ensures answer { IfTold (known (D.seen disk.old) (D.lost disk.old)) (λ image.
+        Answers listed_view result (subs_listed (volume_value volume.now) (disk_bytes image) subs.now nothing_listed)) }
     ensures disk_fault { (result ≡ Err ReadFault.Disk) → HasRisen (D.faults disk.old) (D.faults disk.new) }
     ensures size { D.count disk.new ≡ D.count disk.old }
     ensures seen { D.seen disk.new ≡ D.seen disk.old }

@@ -27,7 +27,8 @@ fn is_below(bytes: &[u8], others: &[u8]) -> bool
 /// The place behind the names that aren't above these bytes.
 fn place_of(names: &[Name], bytes: &[u8]) -> usize
     ensures within { result ≤ length names.now }
-    ensures place { (entry : EntryValue) → entry.name ≡ bytes.now → put_entry entry (map entry_view names.now) ≡ insert (map entry_view names.now) result entry }
+    ensures place { (entry : EntryValue) → entry.name ≡ bytes.now
+        → put_entry entry (map entry_view names.now) ≡ insert (map entry_view names.now) result entry }
 {
     for (place, name) in names.iter().enumerate() {
         if is_below(bytes, &name.bytes) {

@@ -88,7 +88,9 @@ fn enter<D: Disk>(
 ) -> Result<(), ReadFault>
     requires on_disk { All (IsOnDisk (4096 * D.count disk.old)) volume.now.chunks.items }
     requires room { walk.old.listed.lines + 1 < 2 ^ 128 }
-    ensures answer { IfTold (known (D.seen disk.old) (D.lost disk.old)) (λ image. (before : Between) → IsBetween walk.old before → IsVisited walk.old walk.new result (enter (volume_value volume.now) (disk_bytes image) (tree_value tree.now) (place_view dir.now) before)) }
+    ensures answer { IfTold (known (D.seen disk.old) (D.lost disk.old)) (λ image.
+        (before : Between) → IsBetween walk.old before
+        → IsVisited walk.old walk.new result (enter (volume_value volume.now) (disk_bytes image) (tree_value tree.now) (place_view dir.now) before)) }
     ensures lines { OnOk result (walk.new.listed.lines ≡ walk.old.listed.lines + 1) }
     ensures len { OnOk result (vec_len walk.new.pending + vec_len walk.new.names ≡ vec_len walk.old.pending + vec_len walk.old.names) }
     ensures disk_fault { (result ≡ Err ReadFault.Disk) → HasRisen (D.faults disk.old) (D.faults disk.new) }
@@ -117,7 +119,9 @@ fn pass<D: Disk>(
 ) -> Result<(), ReadFault>
     requires on_disk { All (IsOnDisk (4096 * D.count disk.old)) volume.now.chunks.items }
     requires room { walk.old.listed.lines + 1 < 2 ^ 128 }
-    ensures answer { IfTold (known (D.seen disk.old) (D.lost disk.old)) (λ image. (before : Between) → IsBetween walk.old before → IsVisited walk.old walk.new result (pass (volume_value volume.now) (disk_bytes image) (tree_value tree.now) (place_view place.now) before)) }
+    ensures answer { IfTold (known (D.seen disk.old) (D.lost disk.old)) (λ image.
+        (before : Between) → IsBetween walk.old before
+        → IsVisited walk.old walk.new result (pass (volume_value volume.now) (disk_bytes image) (tree_value tree.now) (place_view place.now) before)) }
     ensures lines { OnOk result (walk.new.listed.lines ≡ walk.old.listed.lines + 1) }
     ensures len { OnOk result (vec_len walk.new.pending + vec_len walk.new.names ≡ vec_len walk.old.pending + vec_len walk.old.names) }
     ensures disk_fault { (result ≡ Err ReadFault.Disk) → HasRisen (D.faults disk.old) (D.faults disk.new) }
@@ -158,7 +162,9 @@ fn visit<D: Disk>(
 ) -> Result<(), ReadFault>
     requires on_disk { All (IsOnDisk (4096 * D.count disk.old)) volume.now.chunks.items }
     requires room { walk.old.listed.lines + 1 < 2 ^ 128 }
-    ensures answer { IfTold (known (D.seen disk.old) (D.lost disk.old)) (λ image. (before : Between) → IsBetween walk.old before → IsVisited walk.old walk.new result (visit (volume_value volume.now) (disk_bytes image) (tree_value tree.now) (place_view place.now) before)) }
+    ensures answer { IfTold (known (D.seen disk.old) (D.lost disk.old)) (λ image.
+        (before : Between) → IsBetween walk.old before
+        → IsVisited walk.old walk.new result (visit (volume_value volume.now) (disk_bytes image) (tree_value tree.now) (place_view place.now) before)) }
     ensures lines { OnOk result (walk.new.listed.lines ≡ walk.old.listed.lines + 1) }
     ensures len { OnOk result (vec_len walk.new.pending + vec_len walk.new.names ≡ vec_len walk.old.pending + vec_len walk.old.names) }
     ensures disk_fault { (result ≡ Err ReadFault.Disk) → HasRisen (D.faults disk.old) (D.faults disk.new) }
@@ -207,7 +213,9 @@ pub(crate) fn list_tree<D: Disk>(
 ) -> Result<Listed, ReadFault>
     requires on_disk { All (IsOnDisk (4096 * D.count disk.old)) volume.now.chunks.items }
     requires room { listed.lines + 2 ^ 64 < 2 ^ 128 }
-    ensures answer { IfTold (known (D.seen disk.old) (D.lost disk.old)) (λ image. Answers listed_view result (tree_listed (volume_value volume.now) (disk_bytes image) (tree_value tree.now) (map name_view names.items) (listed_view listed))) }
+    ensures answer { IfTold (known (D.seen disk.old) (D.lost disk.old)) (λ image.
+        Answers listed_view result (tree_listed (volume_value volume.now) (disk_bytes image) (tree_value tree.now)
+        (map name_view names.items) (listed_view listed))) }
     ensures lines { IfOk result (λ after. after.lines ≤ listed.lines + 2 ^ 64) }
     ensures disk_fault { (result ≡ Err ReadFault.Disk) → HasRisen (D.faults disk.old) (D.faults disk.new) }
     ensures size { D.count disk.new ≡ D.count disk.old }

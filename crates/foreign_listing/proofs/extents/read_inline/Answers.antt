@@ -1,4 +1,4 @@
-use Rattle.std.proofs.Common.{◌*◌, Vec, Global, arith}
+use Rattle.std.proofs.Common.{◌*◌, arith}
 use Rattle.disk_model.specs.Disk.{known}
 use Rattle.disk_model.proofs.CrashLaws.{known_told}
 use Rattle.foreign_listing.proofs.Inline.{inline_read}

@@ -1,4 +1,4 @@
-use Rattle.std.proofs.Common.{Vec, Global, List, Ok, ℕ, ◌∙◌, ap, sym}
+use Rattle.std.proofs.Common.{Vec, Global, Ok, ℕ, ◌∙◌, ap, sym}
 use Rattle.std.proofs.lemmas.Result.{err_from_is_err_and}
 use Rattle.disk_model.specs.Disk.{known}
 use Rattle.disk_model.proofs.CrashLaws.{known_same}

@@ -1,4 +1,4 @@
-use Rattle.std.proofs.Common.{◌∙◌, drop, refl, arith}
+use Rattle.std.proofs.Common.{◌∙◌, drop, arith}
 use Rattle.std.proofs.lemmas.Result.{err_from_is_err_and}
 use Rattle.disk_model.specs.Disk.{known}
 use Rattle.disk_model.proofs.CrashLaws.{known_same}
