@@ -9,6 +9,7 @@ mod standard;
 
 use blk_base::format::BLOCK_SIZE;
 use file_disk::FileDisk;
+use foreign_read::{ForeignStatus, drive_foreign};
 use script_runner::{Status, blocks_asked, drive};
 use standard::{ReaderSource, WriterSink};
 use std::alloc::AllocError;
@@ -31,6 +32,9 @@ IMAGE is a file with the image of a volume. Commands, and what they print:
   run                     runs a script on a volume   its answers, and done N
     the script is read from standard input
   list                    shows what a volume has     its listing
+  foreign                 shows what a volume has     its listing
+    the volume was made by the kernel or its tools, on one device with single or
+    DUP chunks; the image is only read
 For run and list the volume has to stand in one leaf.
 
 Other answers, and the exit status of each:
@@ -38,6 +42,7 @@ Other answers, and the exit status of each:
   1  usage    the words are no command
   2  script   the script has a fault; its line and kind stand behind the word
   3  volume   the image has no volume in one leaf; what is wrong stands behind the word
+     foreign  the image has no volume of the kernel's that can be listed; the same
   4  disk     the image can't be opened or made, or failed while a volume was made or mounted
   5  read     standard input failed, or has more than 16777216 bytes
   6           standard output failed
@@ -55,6 +60,9 @@ fn run(rt: &HostRuntime) -> u8 {
             [] => answer(rt, "usage", Status::Usage),
             [word] if word.as_str() == "--help" => answer(rt, HELP, Status::Done),
             [word] if word.as_str() == "--version" => answer(rt, VERSION, Status::Done),
+            [image, command @ ..] if is_foreign(command) => {
+                on_foreign(rt, image.as_str(), command)
+            }
             [image, command @ ..] => on_image(rt, image.as_str(), command),
         },
         Err(e) if e.kind() == ErrorKind::OutOfMemory => answer(rt, "memory", Status::Memory),
@@ -88,6 +96,44 @@ fn on_image(rt: &HostRuntime, path: &str, command: &[String]) -> u8 {
             drive(rt.alloc(), command, &mut from, &mut to, &mut disk).code()
         }
         Err(_) => answer(rt, "disk", Status::DiskFault),
+    }
+}
+
+/// Whether the first word is `foreign`.
+fn is_foreign(command: &[String]) -> bool {
+    match command {
+        [word, ..] => word.as_str() == "foreign",
+        [] => false,
+    }
+}
+
+/// Lists the volume of the kernel's or its tools' making on the image in a file, which is only read.
+fn on_foreign(rt: &HostRuntime, path: &str, command: &[String]) -> u8 {
+    match open_read_only(rt, path) {
+        Ok(mut disk) => {
+            let mut to = WriterSink::new(rt.stdout());
+            let status = drive_foreign(rt.alloc(), command, &mut to, &mut disk);
+            end_foreign(rt, status)
+        }
+        Err(_) => answer(rt, "disk", Status::DiskFault),
+    }
+}
+
+/// Opens the image to be read alone.
+fn open_read_only(rt: &HostRuntime, path: &str) -> io::Result<FileDisk> {
+    let file = OpenOptions::new().read(true).open(rt, path)?;
+    FileDisk::new(file)
+}
+
+/// Prints the word of an answer that has written nothing, and gives the exit status.
+fn end_foreign(rt: &HostRuntime, status: ForeignStatus) -> u8 {
+    match status {
+        ForeignStatus::Usage => answer(rt, "usage", Status::Usage),
+        ForeignStatus::DiskFault => answer(rt, "disk", Status::DiskFault),
+        ForeignStatus::Memory => answer(rt, "memory", Status::Memory),
+        ForeignStatus::Done | ForeignStatus::NoVolume(_) | ForeignStatus::WriteFault => {
+            status.code()
+        }
     }
 }
 

@@ -37,7 +37,8 @@ item_word item_fault.Overlap = codes "overlap"
 
 -- the words of an item that fails a check: its leaf, its key's object id, type and offset in decimal, and the check (own)
 abbrev pub item_words : ℕ → Key → ItemFault → List ℕ
-item_words at key check = decimal at ++ codes " " ++ decimal key.objectid ++ codes " " ++ decimal key.kind ++ codes " " ++ decimal key.offset ++ codes " " ++ item_word check
+item_words at key check =
+    decimal at ++ codes " " ++ decimal key.objectid ++ codes " " ++ decimal key.kind ++ codes " " ++ decimal key.offset ++ codes " " ++ item_word check
 
 -- the words of a fault: its kind, its numbers in decimal, and the check that a block or an item fails (own)
 abbrev pub fault_words : ForeignFault → List ℕ

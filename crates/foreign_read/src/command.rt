@@ -63,16 +63,22 @@ pub fn drive_foreign<K: Sink, D: Disk>(
 ) -> ForeignStatus
     // Which answer comes.
     ensures usage { (result ≡ ForeignStatus.Usage) ↔ (IsForeign (bytes_of words.now) → ⊥) }
-    ensures no_volume { (fault : ForeignFault) → (result ≡ ForeignStatus.NoVolume fault) → IsFirstFault (D.count disk.old) (known (D.seen disk.old) (D.lost disk.old)) fault }
+    ensures no_volume { (fault : ForeignFault) → (result ≡ ForeignStatus.NoVolume fault)
+        → IsFirstFault (D.count disk.old) (known (D.seen disk.old) (D.lost disk.old)) fault }
     ensures disk_fault { (result ≡ ForeignStatus.DiskFault) → HasRisen (D.faults disk.old) (D.faults disk.new) }
     ensures write_fault { (result ≡ ForeignStatus.WriteFault) → HasRisen (K.faults to.old) (K.faults to.new) }
-    ensures done { IsForeign (bytes_of words.now) → IfTold (known (D.seen disk.old) (D.lost disk.old)) (λ image. (text : List ℕ) → (listing_of (D.count disk.old) image ≡ Ok text)
-        → (HasRisen (D.faults disk.old) (D.faults disk.new) → ⊥) → (HasRisen (K.faults to.old) (K.faults to.new) → ⊥) → (result ≡ ForeignStatus.Done) ⊎ (result ≡ ForeignStatus.Memory)) }
-    ensures refused { IsForeign (bytes_of words.now) → IfTold (known (D.seen disk.old) (D.lost disk.old)) (λ image. (fault : ForeignFault) → (listing_of (D.count disk.old) image ≡ Err fault)
+    ensures done { IsForeign (bytes_of words.now) → IfTold (known (D.seen disk.old) (D.lost disk.old)) (λ image.
+        (text : List ℕ) → (listing_of (D.count disk.old) image ≡ Ok text)
+        → (HasRisen (D.faults disk.old) (D.faults disk.new) → ⊥) → (HasRisen (K.faults to.old) (K.faults to.new) → ⊥)
+        → (result ≡ ForeignStatus.Done) ⊎ (result ≡ ForeignStatus.Memory)) }
+    ensures refused { IsForeign (bytes_of words.now) → IfTold (known (D.seen disk.old) (D.lost disk.old)) (λ image.
+        (fault : ForeignFault) → (listing_of (D.count disk.old) image ≡ Err fault)
         → (HasRisen (D.faults disk.old) (D.faults disk.new) → ⊥) → (result ≡ ForeignStatus.NoVolume fault) ⊎ (result ≡ ForeignStatus.Memory)) }
 
     // What the sink was given.
-    ensures text { (text : List ℕ) × IsTextOf (D.count disk.old) (known (D.seen disk.old) (D.lost disk.old)) result text × IsPut result text (K.taken to.old) (K.taken to.new) (K.faults to.old) (K.faults to.new) }
+    ensures text { (text : List ℕ)
+        × IsTextOf (D.count disk.old) (known (D.seen disk.old) (D.lost disk.old)) result text
+        × IsPut result text (K.taken to.old) (K.taken to.new) (K.faults to.old) (K.faults to.new) }
     ensures silent { (result ≡ ForeignStatus.Usage) ⊎ (result ≡ ForeignStatus.DiskFault) ⊎ (result ≡ ForeignStatus.Memory) → to.new ≡ to.old }
 
     // What stays.

@@ -57,8 +57,10 @@ fn put_number<K: Sink>(to: &mut K, before: &str, number: u64) -> Result<(), Sink
 
 /// Writes the line of a tree block that fails a check.
 fn put_block<K: Sink>(to: &mut K, at: u64, fault: BlockFault) -> Result<(), SinkFailed>
-    ensures whole { OnOk result (Takes (K.taken to.old) (codes "foreign block " ++ decimal at ++ codes " " ++ block_word fault ++ codes "\n") (K.taken to.new)) }
-    ensures front { OnErr result (TakesFront (K.taken to.old) (codes "foreign block " ++ decimal at ++ codes " " ++ block_word fault ++ codes "\n") (K.taken to.new)) }
+    ensures whole { OnOk result (Takes (K.taken to.old)
+        (codes "foreign block " ++ decimal at ++ codes " " ++ block_word fault ++ codes "\n") (K.taken to.new)) }
+    ensures front { OnErr result (TakesFront (K.taken to.old)
+        (codes "foreign block " ++ decimal at ++ codes " " ++ block_word fault ++ codes "\n") (K.taken to.new)) }
     ensures cause { HasCause (K.faults to.old) (K.faults to.new) result }
 {
     let mut buffer = Buffer::new();
@@ -102,8 +104,10 @@ fn put_item<K: Sink>(to: &mut K, at: u64, key: Key, fault: ItemFault) -> Result<
 
 /// Writes the line of an inode that can't be listed.
 fn put_incoherent<K: Sink>(to: &mut K, sub: SubId, ino: Ino) -> Result<(), SinkFailed>
-    ensures whole { OnOk result (Takes (K.taken to.old) (codes "foreign incoherent " ++ decimal sub.0 ++ codes " " ++ decimal ino.0 ++ codes "\n") (K.taken to.new)) }
-    ensures front { OnErr result (TakesFront (K.taken to.old) (codes "foreign incoherent " ++ decimal sub.0 ++ codes " " ++ decimal ino.0 ++ codes "\n") (K.taken to.new)) }
+    ensures whole { OnOk result (Takes (K.taken to.old)
+        (codes "foreign incoherent " ++ decimal sub.0 ++ codes " " ++ decimal ino.0 ++ codes "\n") (K.taken to.new)) }
+    ensures front { OnErr result (TakesFront (K.taken to.old)
+        (codes "foreign incoherent " ++ decimal sub.0 ++ codes " " ++ decimal ino.0 ++ codes "\n") (K.taken to.new)) }
     ensures cause { HasCause (K.faults to.old) (K.faults to.new) result }
 {
     let (mut first, mut second) = (Buffer::new(), Buffer::new());
