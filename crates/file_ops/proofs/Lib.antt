@@ -3,3 +3,4 @@ pub mod Answered
 pub mod Done
 pub mod Rows
 pub mod FileRows
+pub mod Writes

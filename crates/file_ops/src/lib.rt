@@ -11,4 +11,4 @@ mod place;
 mod tests;
 
 pub use attributes::{del_attr, get_attr, set_attr};
-pub use contents::read;
+pub use contents::{read, truncate, write};
