@@ -1,0 +1,4 @@
+mod Doing
+mod Among
+mod Placed
+mod Asking
