@@ -1,5 +1,5 @@
 -- States that were made so far, one bare subvolume after the other.
-use Rattle.std.proofs.Common.{◌≡◌, ◌≢◌, ◌+◌, ◌*◌, ◌∙◌, ℕ, List, [], ◌∷◌, ◌++◌, map, sym, ap, subst, cond, nat_eq, refl, arith, inl, inr}
+use Rattle.std.proofs.Common.{◌≡◌, ◌≢◌, ◌≤◌, ◌+◌, ◌*◌, ◌∙◌, length, length-append, ℕ, List, [], ◌∷◌, ◌++◌, map, sym, ap, subst, cond, nat_eq, refl, arith, inl, inr}
 use Rattle.std.specs.Prelude.{All, Contains, slice_index_or}
 use Rattle.std.specs.List.{flat_map}
 use Rattle.std.specs.List.Sorted.{IsStrictlyIncreasing}
@@ -15,10 +15,15 @@ use Rattle.block_table.specs.declared.state.SlotState.TheVariants.{Free}
 use Rattle.flat_model.specs.Volume.{bare_volume, mounted, subvolume_ids}
 use Rattle.tree_range.proofs.Cuts.{All-unmap}
 use Rattle.tree_frame.specs.Frame.{IsEdit, TakesAtMost}
+use Rattle.tree_frame.proofs.Counting.{few_blocks_in_tree}
+use Rattle.tree_range.specs.Shape.{tree_items, tree_reach}
+use Rattle.blk_base.specs.Leaf.{Item}
+use Rattle.volume_image.specs.Bare.{bare_items}
+use Rattle.volume_image.specs.Subvolume.{data_addresses}
 use Rattle.tree_frame.proofs.Among.{an_edit_keeps_more}
 use Rattle.tree_frame.proofs.EditLaws.{edits_join, nothing_is_an_edit}
 use Rattle.tree_frame.proofs.Reading.{all_joined, flat_map_same}
-use Rattle.table_volume.specs.Gives.{AreAccounted, sub_reach}
+use Rattle.table_volume.specs.Gives.{AreAccounted, sub_reach, tree_data}
 use Rattle.table_volume.specs.Running.{GiveVolume, GivesRun, id_of}
 use Rattle.table_volume.proofs.Editing.{none_lost, state_given, state_reach}
 use Rattle.table_volume.proofs.Giving.{subvolume_taken}
@@ -28,7 +33,7 @@ use Rattle.bare_volume.proofs.Numbers.{bare_only, bare_there, ids_push, ids_rise
 abbrev reach_in : Table → SubState → List ℕ
 reach_in table state = sub_reach table state.tree
 
--- the states of the first so many subvolumes: each gives a bare one, all their blocks are new, and none is of two
+-- the states of the first so many subvolumes: each gives a bare one, all their blocks are new, none is of two, and they are few
 pub record AreMade (old new : Table) (states : List SubState) (running count : ℕ) : Type 0 where
   pub ids : map id_of states ≡ subvolume_ids count
   pub each : All (λ state. GivesRun new state bare_run) states
@@ -36,6 +41,7 @@ pub record AreMade (old new : Table) (states : List SubState) (running count : �
   pub once : NoneTwice (flat_map (reach_in new) states)
   pub edit : IsEdit old new [] (flat_map (reach_in new) states)
   pub taken : TakesAtMost old new (35 * count)
+  pub few : length (flat_map (reach_in new) states) ≤ 5 * count
 
 pub none_made : (table : Table) (running : ℕ) → AreMade table table [] running 0
 none_made table running = record {
@@ -45,7 +51,16 @@ none_made table running = record {
   once = tt;
   edit = nothing_is_an_edit table [];
   taken = record { spare = omega arith; free = omega arith };
+  few = omega arith;
 }
+
+-- the tree of a bare subvolume has two items and no data
+pub bare_small : (table : Table) (state : SubState) (running : ℕ) → GivesRun table state bare_run → tree_items table state.tree ≡ bare_items running → length (sub_reach table state.tree) ≤ 5
+bare_small table state running gives items =
+    let blocks : length (tree_reach table state.tree) ≤ 2 * length (tree_items table state.tree) + 1 = few_blocks_in_tree state.tree.level table state.tree.root.0 gives.gives.tree_in.shape in
+    let two : length (tree_items table state.tree) ≡ 2 = ap (λ (l : List Item). length l) items in
+    let none : length (tree_data table state.tree) ≡ 0 = ap (λ (l : List Item). length (data_addresses l)) items in
+    omega (arith, blocks, two, none, length-append (tree_reach table state.tree) (tree_data table state.tree))
 
 module _ (old mid new : Table) (states : List SubState) (state : SubState) (running count : ℕ) (made : AreMade old mid states running count) (gives : GivesRun new state bare_run) (edit : IsEdit mid new [] (sub_reach new state.tree)) where
   reach : List ℕ
@@ -86,14 +101,18 @@ module _ (old mid new : Table) (states : List SubState) (state : SubState) (runn
   once_now =
       once_append (flat_map (reach_in mid) states) (sub_reach new state.tree) made.once gives.gives.once (λ at there here. is_taken at there (edit.fresh at here (λ none. in_nothing at none)).0)
 
-  pub one_more : id_of state ≡ cond (nat_eq count 0) 5 (255 + count) → state.running ≡ running → TakesAtMost mid new 35 → AreMade old new (states ++ state ∷ []) running (count + 1)
-  one_more id runs taken = record {
+  few_now : length (sub_reach new state.tree) ≤ 5 → length (flat_map (reach_in mid) states ++ sub_reach new state.tree) ≤ 5 * (count + 1)
+  few_now small = let most = made.few in omega (arith, most, small, length-append (flat_map (reach_in mid) states) (sub_reach new state.tree))
+
+  pub one_more : id_of state ≡ cond (nat_eq count 0) 5 (255 + count) → state.running ≡ running → TakesAtMost mid new 35 → length (sub_reach new state.tree) ≤ 5 → AreMade old new (states ++ state ∷ []) running (count + 1)
+  one_more id runs taken small = record {
     ids = map-append id_of states (state ∷ []) ∙ ap (λ (l : List ℕ). l ++ id_of state ∷ []) made.ids ∙ sym (ids_push count (id_of state) id);
     each = All-append (λ (s : SubState). GivesRun new s bare_run) states (state ∷ []) before_gives (All-cons (λ (s : SubState). GivesRun new s bare_run) state [] gives (All-nil _));
     runs = All-append (λ (s : SubState). s.running ≡ running) states (state ∷ []) made.runs (All-cons (λ (s : SubState). s.running ≡ running) state [] runs (All-nil _));
     once = subst NoneTwice (sym all_now) once_now;
     edit = subst (IsEdit old new []) (sym all_now) edit_now;
     taken = record { spare = omega (arith, made.taken.spare, taken.spare); free = omega (arith, made.taken.free, taken.free) };
+    few = subst (λ (reach : List ℕ). length reach ≤ 5 * (count + 1)) (sym all_now) (few_now small);
   }
 
 module _ (old new : Table) (states : List SubState) (running count : ℕ) (made : AreMade old new states running count) where

@@ -4,7 +4,7 @@ mod Counted
 mod WithData
 pub mod States
 mod Free
-mod Whole
+pub mod Whole
 mod Rooted
-mod Standing
+pub mod Standing
 mod Super

@@ -1,0 +1,4 @@
+pub mod New
+pub mod Fresh
+pub mod Room
+pub mod Written
