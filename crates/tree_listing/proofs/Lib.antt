@@ -1,0 +1,5 @@
+mod Given
+mod Naming
+mod Ways
+mod Walking
+mod Volumes
