@@ -6,20 +6,17 @@ use Rattle.disk_model.proofs.CrashLaws.{Contains-cons_cases, Contains-none}
 use Rattle.foreign_items.specs.Rows.{NameValue}
 use Rattle.foreign_tree.specs.Tree.{was_reached}
 use Rattle.foreign_listing.specs.Names.{is_of, rows_beside, rows_of}
+use Rattle.foreign_listing.specs.View.{left_of}
 use Rattle.foreign_listing.proofs.Reaches.{head_in, not_in, not_reached, was_reached-in, was_reached-true}
-
--- the rows of other directories than those that were reached
-abbrev pub left_of : List ℕ → List NameValue → List NameValue
-left_of reached rows = filter (λ row. not (was_reached row.key.objectid reached)) rows
 
 pub either : (b : Bool) → (b ≡ true) ⊎ (b ≡ false)
 either true = inl refl
 either false = inr refl
 
-filter_yes : {A : Type 0} (p : A → Bool) (x : A) (xs : List A) → p x ≡ true → filter p (x ∷ xs) ≡ x ∷ filter p xs
+pub filter_yes : {A : Type 0} (p : A → Bool) (x : A) (xs : List A) → p x ≡ true → filter p (x ∷ xs) ≡ x ∷ filter p xs
 filter_yes p x xs is = rw is refl
 
-filter_not : {A : Type 0} (p : A → Bool) (x : A) (xs : List A) → p x ≡ false → filter p (x ∷ xs) ≡ filter p xs
+pub filter_not : {A : Type 0} (p : A → Bool) (x : A) (xs : List A) → p x ≡ false → filter p (x ∷ xs) ≡ filter p xs
 filter_not p x xs is = rw is refl
 
 pub left_all : (rows : List NameValue) → rows ≡ left_of [] rows

@@ -15,7 +15,8 @@ use Rattle.foreign_listing.specs.Foreign.{AreShown, IsShown, IsShownBy, IsTreeSh
 use Rattle.foreign_listing.specs.Lines.{TreeValue, line_of}
 use Rattle.foreign_listing.specs.Names.{Place, in_byte_order, place_below, places_below, rows_beside, rows_of}
 use Rattle.foreign_listing.specs.Walk.{Between, Listed, Visited, enter, entered, is_dir, pass, root_place, tree_listed, visit, visit_all, with_line}
-use Rattle.foreign_listing.proofs.Filtered.{either, left_all, left_of, rows_fresh, rows_left}
+use Rattle.foreign_listing.specs.View.{left_of}
+use Rattle.foreign_listing.proofs.Filtered.{either, left_all, rows_fresh, rows_left}
 use Rattle.foreign_listing.proofs.Naming.{ordered_length, parts_length}
 use Rattle.foreign_listing.proofs.Reaches.{head_in, none_twice_parts, not_in, not_reached, tail_in}
 use Rattle.foreign_listing.proofs.Walking.{all_done, enter_first, next_place, visit_dir, visit_other}

@@ -1,3 +1,5 @@
+mod ByInode
+mod Sorting
 mod Naming
 mod Walking
 mod Rows
@@ -7,4 +9,5 @@ mod Subvolumes
 mod Reaches
 mod Filtered
 mod Forest
+mod SameTree
 mod Volumes

@@ -1,6 +1,12 @@
 -- Names put in the order of their bytes, and the rows of a directory taken out of others.
-use Rattle.std.proofs.Common.{◌≡◌, ◌<◌, ◌+◌, ◌++◌, ℕ, zero, suc, Bool, true, false, not, cond, List, [], ◌∷◌, map, filter, length, drop, insert, get_or, Ok, Err, refl, sym, ap, ◌∙◌, arith, append-nil, append_assoc}
+use Rattle.std.proofs.Common.{◌≡◌, ◌<◌, ◌≤◌, ◌+◌, ◌==◌, Bor, is_lt, nat_cmp, Less, Equal, Greater, ◌++◌, ℕ, zero, suc, Bool, true, false, not, cond, List, [], ◌∷◌, map, filter, length, drop, insert, get_or, Ok, Err, refl, sym, ap, ◌∙◌, arith, append-nil, append_assoc}
 use Rattle.std.specs.Prelude.{if◌then◌else◌}
+use Rattle.std.specs.Cmp.{IsStrictWeakOrder}
+use Rattle.std.specs.Cmp.Lexicographic.{slice_cmp}
+use Rattle.std.specs.List.Sorted.{IsSortedBy, IsStableBy}
+use Rattle.std.specs.Ordering.{match_ordering}
+use Rattle.std.proofs.lemmas.Cmp.{nat_list_cmp_total}
+use Rattle.std.proofs.lemmas.List.Sorted.{ranks_by}
 use Rattle.std.proofs.lemmas.List.{map-append}
 use Rattle.std.proofs.lemmas.List.Elements.{filter-append}
 use Rattle.blk_base.specs.declared.fault.ItemFault.{ItemFault}
@@ -8,35 +14,49 @@ use Rattle.foreign_format.specs.declared.fault.ForeignFault.TheVariants.{Item}
 use Rattle.format_laws.specs.Checks.{same_ok}
 use Rattle.foreign_format.specs.Items.{EntryValue}
 use Rattle.foreign_tree.proofs.Trees.{and_then_ok}
-use Rattle.foreign_format.proofs.Rows.{drop_at, drop_past}
+use Rattle.foreign_format.proofs.Rows.{drop_here, drop_past}
 use Rattle.foreign_items.specs.declared.rows.Name.{Name}
 use Rattle.foreign_items.specs.declared.rows.NameRow.{NameRow}
 use Rattle.foreign_items.specs.Rows.{NameValue}
 use Rattle.foreign_items.specs.View.{name_view}
-use Rattle.foreign_listing.specs.Names.{Place, at_row, bytes_below, in_byte_order, place_below, places_below, put_entry}
-use Rattle.foreign_listing.specs.View.{entry_view}
+use Rattle.foreign_listing.specs.Names.{Place, at_row, bytes_below, in_byte_order, place_below, places_below, put_entry, rows_of}
+use Rattle.foreign_listing.specs.View.{entries_view, entry_view, put_entries}
+use Rattle.foreign_listing.proofs.Sorting.{put, put_all, sorted_is}
 
--- ---- the place of a name
+-- ---- names in the order of their bytes
 
-pub map_insert : {A B : Type 0} (f : A → B) (xs : List A) (place : ℕ) (x : A) → map f (insert xs place x) ≡ insert (map f xs) place (f x)
-map_insert f [] zero x = refl
-map_insert f [] (suc place) x = refl
-map_insert f (y ∷ ys) zero x = refl
-map_insert f (y ∷ ys) (suc place) x = ap (λ rest. f y ∷ rest) (map_insert f ys place x)
+-- the order of names by their bytes
+abbrev pub lt_names : Bor Name → Bor Name → Bool
+lt_names one other = is_lt (slice_cmp nat_cmp one.now.bytes.items other.now.bytes.items)
 
-pub put_here : (entry : EntryValue) (names : List Name) (place : ℕ) (d : Name) → place < length names → bytes_below entry.name (get_or names place d).bytes.items ≡ true
-    → ((k : ℕ) (d : Name) → k < place → bytes_below entry.name (get_or names k d).bytes.items ≡ false) → put_entry entry (map entry_view names) ≡ insert (map entry_view names) place entry
+pub names_ranked : IsStrictWeakOrder lt_names
+names_ranked = ranks_by nat_list_cmp_total (λ (name : Bor Name). name.now.bytes.items)
+
+below_is : (bytes others : List ℕ) → bytes_below bytes others ≡ is_lt (slice_cmp nat_cmp bytes others)
+below_is bytes others = elim (slice_cmp nat_cmp bytes others) as (λ o. match_ordering o true false false ≡ is_lt o) [ Less ↦ refl | Equal ↦ refl | Greater ↦ refl ]
+
+put_name : (name : Bor Name) (names : List (Bor Name)) → put_entry (entry_view name.now) (entries_view names) ≡ entries_view (put lt_names name names)
 unfolding put_entry
-put_here entry [] place d within above below = absurd (omega arith)
-put_here entry (other ∷ others) zero d within above below = rw above refl
-put_here entry (other ∷ others) (suc place) d within above below =
-    rw (below 0 d (omega arith)) (ap (λ rest. entry_view other ∷ rest) (put_here entry others place d (omega arith) above (λ k e lower. below (suc k) e (omega arith))))
+put_name name [] = refl
+put_name name (other ∷ others) =
+    ap (λ (b : Bool). if b then entry_view name.now ∷ entry_view other.now ∷ entries_view others else entry_view other.now ∷ put_entry (entry_view name.now) (entries_view others)) (below_is name.now.bytes.items other.now.bytes.items)
+    ∙ elim (lt_names name other) as (λ b. (if b then entry_view name.now ∷ entry_view other.now ∷ entries_view others else entry_view other.now ∷ put_entry (entry_view name.now) (entries_view others))
+    ≡ entries_view (cond b (name ∷ other ∷ others) (other ∷ put lt_names name others))) [
+      | true ↦ refl
+      | false ↦ ap (λ (rest : List EntryValue). entry_view other.now ∷ rest) (put_name name others)
+    ]
 
-pub put_last : (entry : EntryValue) (names : List Name) → ((k : ℕ) (d : Name) → k < length names → bytes_below entry.name (get_or names k d).bytes.items ≡ false)
-    → put_entry entry (map entry_view names) ≡ insert (map entry_view names) (length names) entry
-unfolding put_entry
-put_last entry [] below = refl
-put_last entry (other ∷ others) below = rw (below 0 other (omega arith)) (ap (λ rest. entry_view other ∷ rest) (put_last entry others (λ k e lower. below (suc k) e (omega arith))))
+put_names : (before names : List (Bor Name)) → put_entries (entries_view before) (entries_view names) ≡ entries_view (put_all lt_names before names)
+put_names before [] = refl
+put_names before (name ∷ names) = ap (λ (entries : List EntryValue). put_entries entries (entries_view names)) (put_name name before) ∙ put_names (put lt_names name before) names
+
+pub names_sorted : (names sorted : List (Bor Name)) → IsSortedBy lt_names sorted → IsStableBy lt_names names sorted → put_entries [] (entries_view names) ≡ entries_view sorted
+names_sorted names sorted up stable = put_names [] names ∙ ap entries_view (sorted_is lt_names names_ranked names sorted up stable)
+
+-- a name more
+pub put_more : (before names : List EntryValue) (entry : EntryValue) → put_entries before (names ++ entry ∷ []) ≡ put_entry entry (put_entries before names)
+put_more before [] entry = refl
+put_more before (other ∷ names) entry = put_more (put_entry other before) names entry
 
 -- ---- the names of rows
 
@@ -75,46 +95,39 @@ ordered_length entries (row ∷ rows) names h =
 
 -- ---- by places
 
-pub order_turn : (rows : List NameRow) (n m : ℕ) (row : NameRow) (name : Name) (names : List EntryValue) → (n < length rows) × (row ≡ get_or rows n row) → m ≡ suc n → row.name ≡ Ok name
-    → in_byte_order names (map name_view (drop n rows)) ≡ in_byte_order (put_entry (entry_view name) names) (map name_view (drop m rows))
-order_turn rows n m row name names turn next is =
-    ap (λ (rest : List NameRow). in_byte_order names (map name_view rest)) (drop_at rows n row turn.0 turn.1)
-    ∙ order_more names row name (map name_view (drop (suc n) rows)) is
-    ∙ ap (λ (k : ℕ). in_byte_order (put_entry (entry_view name) names) (map name_view (drop k rows))) (sym next)
+row_here : (rows : List NameRow) (i : ℕ) (row : NameRow) → i < length rows → row ≡ get_or rows i row → drop i rows ≡ row ∷ drop (i + 1) rows
+row_here rows i row within at = drop_here rows i row within ∙ ap (λ (r : NameRow). r ∷ drop (i + 1) rows) (sym at)
 
-pub order_stop : (rows : List NameRow) (n : ℕ) (row : NameRow) (fault : ItemFault) (names : List EntryValue) → (n < length rows) × (row ≡ get_or rows n row) → row.name ≡ Err fault
-    → in_byte_order names (map name_view (drop n rows)) ≡ Err (Item row.leaf row.key fault)
-order_stop rows n row fault names turn is =
-    ap (λ (rest : List NameRow). in_byte_order names (map name_view rest)) (drop_at rows n row turn.0 turn.1) ∙ order_bad names row fault (map name_view (drop (suc n) rows)) is
+pub order_turn : (rows : List NameRow) (i : ℕ) (row : NameRow) (name : Bor Name) (names after : List (Bor Name)) → i < length rows → row ≡ get_or rows i row → row.name ≡ Ok name.now → after ≡ names ++ name ∷ []
+    → in_byte_order (put_entries [] (entries_view names)) (map name_view (drop i rows)) ≡ in_byte_order (put_entries [] (entries_view after)) (map name_view (drop (i + 1) rows))
+order_turn rows i row name names after within at is more =
+    ap (λ (rest : List NameRow). in_byte_order (put_entries [] (entries_view names)) (map name_view rest)) (row_here rows i row within at)
+    ∙ order_more (put_entries [] (entries_view names)) row name.now (map name_view (drop (i + 1) rows)) is
+    ∙ ap (λ (entries : List EntryValue). in_byte_order entries (map name_view (drop (i + 1) rows)))
+    (sym (ap (λ (xs : List (Bor Name)). put_entries [] (entries_view xs)) more ∙ ap (put_entries []) (map-append (λ (n : Bor Name). entry_view n.now) names (name ∷ [])) ∙ put_more [] (entries_view names) (entry_view name.now)))
 
-pub order_done : (rows : List NameRow) (n : ℕ) (names : List EntryValue) → n ≡ length rows → in_byte_order names (map name_view (drop n rows)) ≡ Ok names
-order_done rows n names is = order_end names (map name_view (drop n rows)) (ap (map name_view) (drop_past rows n (omega arith)))
+pub order_stop : (rows : List NameRow) (i : ℕ) (row : NameRow) (fault : ItemFault) (entries : List EntryValue) → i < length rows → row ≡ get_or rows i row → row.name ≡ Err fault
+    → in_byte_order entries (map name_view (drop i rows)) ≡ Err (Item row.leaf row.key fault)
+order_stop rows i row fault entries within at is =
+    ap (λ (rest : List NameRow). in_byte_order entries (map name_view rest)) (row_here rows i row within at) ∙ order_bad entries row fault (map name_view (drop (i + 1) rows)) is
+
+pub order_done : (rows : List NameRow) (i : ℕ) (entries : List EntryValue) → length rows ≤ i → in_byte_order entries (map name_view (drop i rows)) ≡ Ok entries
+order_done rows i entries past = order_end entries (map name_view (drop i rows)) (ap (map name_view) (drop_past rows i past))
 
 -- ---- rows taken out
 
-filter_one : {A : Type 0} (p : A → Bool) (x : A) → p x ≡ true → filter p (x ∷ []) ≡ x ∷ []
-filter_one p x is = rw is refl
+-- the rows of a directory, seen as the definitions have them
+pub rows_viewed : (dir : ℕ) (rows : List NameRow) → map name_view (filter (λ row. row.key.objectid == dir) rows) ≡ rows_of dir (map name_view rows)
+rows_viewed dir [] = refl
+rows_viewed dir (row ∷ rows) =
+    elim (row.key.objectid == dir) as (λ b. map name_view (cond b (row ∷ filter (λ row. row.key.objectid == dir) rows) (filter (λ row. row.key.objectid == dir) rows)) ≡ cond b (name_view row ∷ rows_of dir (map name_view rows)) (rows_of dir (map name_view rows))) [
+      | true ↦ ap (λ (rest : List NameValue). name_view row ∷ rest) (rows_viewed dir rows)
+      | false ↦ rows_viewed dir rows
+    ]
 
-filter_no : {A : Type 0} (p : A → Bool) (x : A) → p x ≡ false → filter p (x ∷ []) ≡ []
-filter_no p x is = rw is refl
-
--- a further row that the test takes
-pub kept_more : (p : NameValue → Bool) (front : List NameRow) (row : NameRow) (kept after : List NameRow) → p (name_view row) ≡ true → map name_view kept ≡ filter p (map name_view front) → after ≡ kept ++ row ∷ []
-    → map name_view after ≡ filter p (map name_view (front ++ row ∷ []))
-kept_more p front row kept after is before more =
-    ap (map name_view) more ∙ map-append name_view kept (row ∷ []) ∙ ap (λ (xs : List NameValue). xs ++ name_view row ∷ []) before
-    ∙ ap (λ (xs : List NameValue). filter p (map name_view front) ++ xs) (sym (filter_one p (name_view row) is))
-    ∙ sym (filter-append p (map name_view front) (name_view row ∷ []))
-    ∙ ap (filter p) (sym (map-append name_view front (row ∷ [])))
-
--- and one that it doesn't take
-pub kept_same : (p : NameValue → Bool) (front : List NameRow) (row : NameRow) (kept : List NameRow) → p (name_view row) ≡ false → map name_view kept ≡ filter p (map name_view front)
-    → map name_view kept ≡ filter p (map name_view (front ++ row ∷ []))
-kept_same p front row kept is before =
-    before ∙ sym (append-nil (filter p (map name_view front)))
-    ∙ ap (λ (xs : List NameValue). filter p (map name_view front) ++ xs) (sym (filter_no p (name_view row) is))
-    ∙ sym (filter-append p (map name_view front) (name_view row ∷ []))
-    ∙ ap (filter p) (sym (map-append name_view front (row ∷ [])))
+-- other rows in which those of each directory are the same
+pub rows_same : (rows others : List NameRow) → ((dir : ℕ) → filter (λ row. row.key.objectid == dir) others ≡ filter (λ row. row.key.objectid == dir) rows) → (dir : ℕ) → rows_of dir (map name_view others) ≡ rows_of dir (map name_view rows)
+rows_same rows others same dir = sym (rows_viewed dir others) ∙ ap (map name_view) (same dir) ∙ rows_viewed dir rows
 
 -- the two parts of rows have all of them
 pub parts_length : {A : Type 0} (p : A → Bool) (xs : List A) → length (filter p xs) + length (filter (λ x. not (p x)) xs) ≡ length xs
@@ -127,9 +140,10 @@ parts_length p (x ∷ xs) = elim (p x) as (λ b. length (cond b (x ∷ filter p 
 -- ---- places pushed
 
 -- the last name's place goes in front of those that are pending
-pub pushed_last : (path : List ℕ) (names front : List Name) (name : Name) (pending old : List Place) → names ≡ front ++ name ∷ [] → places_below path (map entry_view names) ++ old ≡ places_below path (map entry_view front) ++ (place_below path (entry_view name) ∷ old)
+pub pushed_last : (path : List ℕ) (names front : List (Bor Name)) (name : Bor Name) (pending old : List Place) → names ≡ front ++ name ∷ []
+    → places_below path (entries_view names) ++ old ≡ places_below path (entries_view front) ++ (place_below path (entry_view name.now) ∷ old)
 pushed_last path names front name pending old is =
-    ap (λ (xs : List Name). places_below path (map entry_view xs) ++ old) is
-    ∙ ap (λ (xs : List EntryValue). places_below path xs ++ old) (map-append entry_view front (name ∷ []))
-    ∙ ap (λ (xs : List Place). xs ++ old) (map-append (place_below path) (map entry_view front) (entry_view name ∷ []))
-    ∙ append_assoc (places_below path (map entry_view front)) (place_below path (entry_view name) ∷ []) old
+    ap (λ (xs : List (Bor Name)). places_below path (entries_view xs) ++ old) is
+    ∙ ap (λ (xs : List EntryValue). places_below path xs ++ old) (map-append (λ (n : Bor Name). entry_view n.now) front (name ∷ []))
+    ∙ ap (λ (xs : List Place). xs ++ old) (map-append (place_below path) (entries_view front) (entry_view name.now ∷ []))
+    ∙ append_assoc (places_below path (entries_view front)) (place_below path (entry_view name.now) ∷ []) old

@@ -10,6 +10,7 @@ ghost use Rattle.foreign_listing.specs.Lines.{are_apart, extents_from, extents_o
 ghost use Rattle.foreign_listing.specs.Names.{at_row};
 ghost use Rattle.foreign_listing.specs.View.{tree_value};
 
+use crate::by_inode::of_inode;
 use crate::inodes::incoherent;
 use crate::tree::Tree;
 use blk_base::format::BLOCK_SIZE;
@@ -31,15 +32,12 @@ fn extent_at(row: &ExtentRow) -> Result<Extent, ForeignFault>
 
 #[tactic(auto, using(foreign_format::specs::Answer::answers_no_memory))]
 /// The extents of an inode, in the order of the tree, or the first item's fault.
-fn extents_from(alloc: Global, rows: &[ExtentRow], ino: u64) -> Result<Vec<Extent>, ReadFault>
-    ensures answer { Answers (λ extents. extents.items) result (extents_from [] rows.now ino) }
+fn extents_from(alloc: Global, tree: &Tree, ino: u64) -> Result<Vec<Extent>, ReadFault>
+    ensures answer { Answers (λ extents. extents.items) result (extents_from [] tree.now.extents.items ino) }
     ensures no_disk { IfErr result (λ fault. fault ≢ ReadFault.Disk) }
 {
     let mut extents = Vec::new(alloc);
-    for row in rows {
-        if row.key.objectid != ino {
-            continue;
-        }
+    for row in of_inode(&tree.extents, ino) {
         match extent_at(row) {
             Ok(extent) => extents.push(extent)?,
             Err(fault) => return Err(ReadFault::Foreign(fault)),
@@ -67,7 +65,7 @@ pub(crate) fn extents_of(alloc: Global, tree: &Tree, ino: u64) -> Result<Vec<Ext
     ensures answer { Answers (λ extents. extents.items) result (extents_of (tree_value tree.now) ino) }
     ensures no_disk { IfErr result (λ fault. fault ≢ ReadFault.Disk) }
 {
-    let extents = extents_from(alloc, &tree.extents, ino)?;
+    let extents = extents_from(alloc, tree, ino)?;
     if !are_apart(&extents) {
         return Err(ReadFault::Foreign(incoherent(tree.sub, ino)));
     }

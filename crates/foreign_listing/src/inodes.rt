@@ -3,6 +3,7 @@ ghost use Rattle.std.specs.Prelude.{◌≡◌};
 ghost use Rattle.foreign_listing.specs.Lines.{incoherent, inode_in, is_item_of};
 ghost use Rattle.foreign_listing.specs.Names.{at_row};
 
+use crate::by_inode::of_inode;
 use crate::tree::Tree;
 use blk_base::{Ino, SubId};
 use foreign_format::{ForeignFault, Inode};
@@ -36,7 +37,7 @@ fn is_item_of(row: &InodeRow, ino: u64) -> bool
 pub(crate) fn inode_of(tree: &Tree, ino: u64) -> Result<Inode, ForeignFault>
     ensures { result ≡ inode_in tree.now.sub tree.now.inodes.items ino }
 {
-    for row in &tree.inodes {
+    for row in of_inode(&tree.inodes, ino) {
         if is_item_of(row, ino) {
             return inode_at(row);
         }

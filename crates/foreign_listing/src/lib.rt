@@ -4,6 +4,7 @@
 //! `specs/Listing.antt` has the text, byte for byte. Names and extents are held in memory, a file's bytes aren't.
 #![tactic(auto)]
 
+mod by_inode;
 mod extents;
 mod inodes;
 pub mod laws;

@@ -59,13 +59,9 @@ fn list_sub<D: Disk>(
     ensures counted { D.faults disk.old ≤ D.faults disk.new }
 {
     let items = read_items(alloc, disk, volume, sub)?;
-    let tree = Tree {
-        sub: sub.id,
-        inodes: items.inodes,
-        extents: items.extents,
-    };
+    let tree = Tree::new(sub.id, items)?;
     let headed = with_head(alloc, sub.id, listed)?;
-    list_tree(alloc, disk, volume, &tree, items.names, headed)
+    list_tree(alloc, disk, volume, &tree, headed)
 }
 
 /// Lists subvolumes, or answers the first fault.

@@ -1,95 +1,65 @@
 //! The names of a directory in the order of their bytes.
-ghost use Rattle.std.specs.Prelude.{◌≡◌, ◌≢◌, ◌≤◌, ◌+◌, [], IfErr, IfOk, OnOk, length, map, vec_len};
-ghost use Rattle.std.proofs.Common.{insert};
+ghost use Rattle.std.specs.Prelude.{◌≡◌, ◌≢◌, [], IfErr, IfOk, length, map, vec_len};
+ghost use Rattle.std.specs.Ordering.{nat_cmp};
+ghost use Rattle.std.specs.Cmp.Lexicographic.{slice_cmp};
 ghost use Rattle.foreign_format.specs.declared.fault.ReadFault.{ReadFault};
 ghost use Rattle.foreign_format.specs.Answer.{Answers};
-ghost use Rattle.foreign_format.specs.Items.{EntryValue};
 ghost use Rattle.foreign_items.specs.View.{name_view};
-ghost use Rattle.foreign_listing.specs.Names.{bytes_below, in_byte_order, put_entry, rows_beside, rows_of};
-ghost use Rattle.foreign_listing.specs.View.{entry_view};
+ghost use Rattle.foreign_listing.specs.Names.{in_byte_order, rows_of};
+ghost use Rattle.foreign_listing.specs.View.{entries_view, put_entries};
 
-use blk_base::OutOfMemory;
+use crate::by_inode::of_inode;
+use crate::tree::Tree;
 use foreign_format::{ForeignFault, ReadFault};
 use foreign_items::{Name, NameRow};
 use std::alloc::Global;
 use std::cmp::Ordering;
 
-/// Whether bytes come before others.
-fn is_below(bytes: &[u8], others: &[u8]) -> bool
-    ensures { result ≡ bytes_below bytes.now others.now }
-{
-    match bytes.cmp(others) {
-        Ordering::Less => true,
-        Ordering::Equal | Ordering::Greater => false,
-    }
-}
-
-/// The place behind the names that aren't above these bytes.
-fn place_of(names: &[Name], bytes: &[u8]) -> usize
-    ensures within { result ≤ length names.now }
-    ensures place { (entry : EntryValue) → entry.name ≡ bytes.now
-        → put_entry entry (map entry_view names.now) ≡ insert (map entry_view names.now) result entry }
-{
-    for (place, name) in names.iter().enumerate() {
-        if is_below(bytes, &name.bytes) {
-            return place;
-        }
-    }
-    names.len()
-}
-
-/// Puts a name behind those that aren't above it.
-fn put_name(names: &mut Vec<Name>, name: Name) -> Result<(), OutOfMemory>
-    ensures items { OnOk result (map entry_view names.new.items ≡ put_entry (entry_view name) (map entry_view names.old.items)) }
-    ensures len { OnOk result (vec_len names.new ≡ vec_len names.old + 1) }
-{
-    let place = place_of(names, &name.bytes);
-    names.insert(place, name)?;
-    Ok(())
-}
-
-#[tactic(auto, using(foreign_format::specs::Answer::answers_no_memory))]
-/// The names of a directory's rows in the order of their bytes, or the first row's fault.
-pub(crate) fn in_byte_order(alloc: Global, rows: Vec<NameRow>) -> Result<Vec<Name>, ReadFault>
-    ensures answer { Answers (λ names. map entry_view names.items) result (in_byte_order [] (map name_view rows.items)) }
-    ensures len { IfOk result (λ names. vec_len names ≡ vec_len rows) }
+/// The names of rows, in the order of these, or the first row's fault.
+fn names_in<'a>(alloc: Global, rows: &'a [NameRow]) -> Result<Vec<&'a Name>, ReadFault>
+    ensures answer { Answers (λ names. put_entries [] (entries_view names.items)) result (in_byte_order [] (map name_view rows.now)) }
+    ensures len { IfOk result (λ names. vec_len names ≡ length rows.now) }
     ensures no_disk { IfErr result (λ fault. fault ≢ ReadFault.Disk) }
 {
     let mut names = Vec::new(alloc);
     for row in rows {
-        match row.name {
-            Ok(name) => put_name(&mut names, name)?,
+        match &row.name {
+            Ok(name) => names.push(name)?,
             Err(fault) => {
-                return Err(ReadFault::Foreign(ForeignFault::Item(row.leaf, row.key, fault)));
+                return Err(ReadFault::Foreign(ForeignFault::Item(row.leaf, row.key, *fault)));
             }
         }
     }
     Ok(names)
 }
 
-/// The rows of a directory, and those of the others.
-#[derive(Drop)]
-pub(crate) struct Taken {
-    pub of: Vec<NameRow>,
-    pub beside: Vec<NameRow>,
+/// How the bytes of two names are ordered.
+fn order_of(one: &Name, other: &Name) -> Ordering
+    ensures { result ≡ slice_cmp nat_cmp one.now.bytes.items other.now.bytes.items }
+{
+    one.bytes.as_slice().cmp(other.bytes.as_slice())
 }
 
-/// Takes the rows of a directory out of rows.
-pub(crate) fn take_rows(alloc: Global, rows: Vec<NameRow>, dir: u64) -> Result<Taken, OutOfMemory>
-    ensures of { IfOk result (λ taken. map name_view taken.of.items ≡ rows_of dir (map name_view rows.items)) }
-    ensures beside { IfOk result (λ taken. map name_view taken.beside.items ≡ rows_beside dir (map name_view rows.items)) }
-    ensures len { IfOk result (λ taken. vec_len taken.of + vec_len taken.beside ≡ vec_len rows) }
+/// The names of rows in the order of their bytes, or the first row's fault.
+fn in_byte_order<'a>(alloc: Global, rows: &'a [NameRow]) -> Result<Vec<&'a Name>, ReadFault>
+    ensures answer { Answers (λ names. entries_view names.items) result (in_byte_order [] (map name_view rows.now)) }
+    ensures len { IfOk result (λ names. vec_len names ≡ length rows.now) }
+    ensures no_disk { IfErr result (λ fault. fault ≢ ReadFault.Disk) }
 {
-    let mut taken = Taken {
-        of: Vec::new(alloc),
-        beside: Vec::new(alloc),
-    };
-    for row in rows {
-        if row.key.objectid == dir {
-            taken.of.push(row)?;
-        } else {
-            taken.beside.push(row)?;
-        }
-    }
-    Ok(taken)
+    let mut names = names_in(alloc, rows)?;
+    names.sort_by(|one, other| order_of(one, other))?;
+    Ok(names)
+}
+
+/// The names of a directory in the order of their bytes, or the first fault of its rows. Takes n log n steps for n names.
+pub(crate) fn names_of<'a>(
+    alloc: Global,
+    tree: &'a Tree,
+    dir: u64,
+) -> Result<Vec<&'a Name>, ReadFault>
+    ensures answer { Answers (λ names. entries_view names.items) result (in_byte_order [] (rows_of dir (map name_view tree.now.names.items))) }
+    ensures len { IfOk result (λ names. vec_len names ≡ length (rows_of dir (map name_view tree.now.names.items))) }
+    ensures no_disk { IfErr result (λ fault. fault ≢ ReadFault.Disk) }
+{
+    in_byte_order(alloc, of_inode(&tree.names, dir))
 }

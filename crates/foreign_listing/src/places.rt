@@ -1,8 +1,8 @@
 //! The places to which names lead.
-ghost use Rattle.std.specs.Prelude.{◌≡◌, ◌+◌, ◌++◌, OnOk, IfOk, codes, map, vec_len};
+ghost use Rattle.std.specs.Prelude.{◌≡◌, ◌+◌, ◌++◌, OnOk, IfOk, codes, vec_len};
 ghost use Rattle.io_edge.specs.Printed.{printed};
 ghost use Rattle.foreign_listing.specs.Names.{places_below};
-ghost use Rattle.foreign_listing.specs.View.{entry_view, pending_view};
+ghost use Rattle.foreign_listing.specs.View.{entries_view, pending_view};
 
 use blk_base::OutOfMemory;
 use foreign_format::EntryKind;
@@ -34,10 +34,10 @@ pub(crate) fn push_places(
     alloc: Global,
     pending: &mut Vec<Place>,
     path: &[u8],
-    names: Vec<Name>,
+    names: Vec<&Name>,
 ) -> Result<(), OutOfMemory>
-    ensures view { OnOk result (pending_view pending.new.items ≡ places_below path.now (map entry_view names.items) ++ pending_view pending.old.items) }
-    ensures len { OnOk result (vec_len pending.new ≡ vec_len pending.old + vec_len names) }
+    ensures view { OnOk result (pending_view pending.new.items ≡ places_below path.now (entries_view names.entry.items) ++ pending_view pending.old.items) }
+    ensures len { OnOk result (vec_len pending.new ≡ vec_len pending.old + vec_len names.entry) }
 {
     let mut left = names;
     while let Some(name) = left.pop() {

@@ -1,5 +1,5 @@
 //! The names of a subvolume, from directory 256 down.
-ghost use Rattle.std.specs.Prelude.{◌≡◌, ◌≢◌, ◌≤◌, ◌<◌, ◌+◌, ◌*◌, ◌^◌, ◌++◌, ◌∷◌, [], All, IfErr, IfOk, OnOk, Err, map, vec_len};
+ghost use Rattle.std.specs.Prelude.{◌≡◌, ◌≢◌, ◌≤◌, ◌<◌, ◌+◌, ◌*◌, ◌^◌, ◌++◌, ◌∷◌, [], All, IfErr, IfOk, OnOk, Err, length, map, vec_len};
 ghost use Rattle.blk_base.specs.Causes.{HasRisen};
 ghost use Rattle.disk_model.specs.Disk.{IfTold, known};
 ghost use Rattle.foreign_format.specs.declared.fault.ReadFault.{ReadFault};
@@ -9,20 +9,20 @@ ghost use Rattle.foreign_items.specs.View.{name_view};
 ghost use Rattle.foreign_tree.specs.Tree.{disk_bytes, volume_value};
 ghost use Rattle.foreign_listing.specs.Lines.{incoherent};
 ghost use Rattle.foreign_listing.specs.Walk.{Between, enter, is_dir, pass, root_place, tree_listed, visit};
-ghost use Rattle.foreign_listing.specs.View.{HasNames, IsBetween, IsVisited, listed_view, pending_view, place_view, tree_value};
+ghost use Rattle.foreign_tree.specs.Reached.{HasReached};
+ghost use Rattle.foreign_listing.specs.Names.{rows_of};
+ghost use Rattle.foreign_listing.specs.View.{HasNames, IsBetween, IsVisited, left_of_walk, listed_view, pending_view, place_view, tree_value};
 
 use crate::inodes::incoherent;
 use crate::lines::line_of;
-use crate::names::{in_byte_order, take_rows};
+use crate::names::names_of;
 use crate::places::{Place, push_places};
 use crate::tree::Tree;
 use blk_base::OutOfMemory;
 use disk_model::Disk;
 use foreign_format::{EntryKind, ReadFault};
-use foreign_items::NameRow;
 use foreign_tree::{Reached, Volume};
 use std::alloc::Global;
-use std::mem;
 
 /// The number of a subvolume's root directory.
 const ROOT_DIRECTORY: u64 = 256;
@@ -34,13 +34,12 @@ pub(crate) struct Listed {
     pub lines: u128,
 }
 
-/// What a walk holds between two names: what is listed, the directories that were reached, the rows of those that weren't, and
-/// the places that are to be listed, the next one last.
+/// What a walk holds between two names: what is listed, the directories that were reached, and the places that are to be listed,
+/// the next one last.
 #[derive(Drop)]
 pub(crate) struct Walk {
     pub listed: Listed,
     pub reached: Reached,
-    pub names: Vec<NameRow>,
     pub pending: Vec<Place>,
 }
 
@@ -51,7 +50,6 @@ impl Walk {
         ensures text { OnOk result (self.new.listed.text.items ≡ self.old.listed.text.items ++ line.now) }
         ensures lines { OnOk result (self.new.listed.lines ≡ self.old.listed.lines + 1) }
         ensures reached { self.new.reached ≡ self.old.reached }
-        ensures names { self.new.names ≡ self.old.names }
         ensures pending { self.new.pending ≡ self.old.pending }
         ensures memory { IfErr result (λ fault. fault ≡ ReadFault.OutOfMemory) }
     {
@@ -61,18 +59,15 @@ impl Walk {
     }
 
     /// Makes the names of a directory the next ones, in the order of their bytes, or answers the first fault of their rows.
-    fn add_names(&mut self, alloc: Global, dir: &Place) -> Result<(), ReadFault>
-        ensures names { HasNames dir.now.path.items dir.now.to self.old self.new result }
+    fn add_names(&mut self, alloc: Global, tree: &Tree, dir: &Place) -> Result<(), ReadFault>
+        ensures names { HasNames dir.now.path.items (rows_of dir.now.to (map name_view tree.now.names.items)) self.old self.new result }
         ensures listed { self.new.listed ≡ self.old.listed }
         ensures reached { self.new.reached ≡ self.old.reached }
-        ensures len { OnOk result (vec_len self.new.pending + vec_len self.new.names ≡ vec_len self.old.pending + vec_len self.old.names) }
+        ensures len { OnOk result (vec_len self.new.pending ≡ vec_len self.old.pending + length (rows_of dir.now.to (map name_view tree.now.names.items))) }
         ensures no_disk { IfErr result (λ fault. fault ≢ ReadFault.Disk) }
     {
-        let names = mem::replace(&mut self.names, Vec::new(alloc));
-        let taken = take_rows(alloc, names, dir.to)?;
-        self.names = taken.beside;
-        let below = in_byte_order(alloc, taken.of)?;
-        push_places(alloc, &mut self.pending, &dir.path, below)?;
+        let names = names_of(alloc, tree, dir.to)?;
+        push_places(alloc, &mut self.pending, &dir.path, names)?;
         Ok(())
     }
 }
@@ -89,10 +84,11 @@ fn enter<D: Disk>(
     requires on_disk { All (IsOnDisk (4096 * D.count disk.old)) volume.now.chunks.items }
     requires room { walk.old.listed.lines + 1 < 2 ^ 128 }
     ensures answer { IfTold (known (D.seen disk.old) (D.lost disk.old)) (λ image.
-        (before : Between) → IsBetween walk.old before
-        → IsVisited walk.old walk.new result (enter (volume_value volume.now) (disk_bytes image) (tree_value tree.now) (place_view dir.now) before)) }
+        (before : Between) → IsBetween (map name_view tree.now.names.items) walk.old before
+        → IsVisited (map name_view tree.now.names.items) walk.old walk.new result
+        (enter (volume_value volume.now) (disk_bytes image) (tree_value tree.now) (place_view dir.now) before)) }
     ensures lines { OnOk result (walk.new.listed.lines ≡ walk.old.listed.lines + 1) }
-    ensures len { OnOk result (vec_len walk.new.pending + vec_len walk.new.names ≡ vec_len walk.old.pending + vec_len walk.old.names) }
+    ensures len { OnOk result (left_of_walk tree.now walk.new ≡ left_of_walk tree.now walk.old) }
     ensures disk_fault { (result ≡ Err ReadFault.Disk) → HasRisen (D.faults disk.old) (D.faults disk.new) }
     ensures size { D.count disk.new ≡ D.count disk.old }
     ensures seen { D.seen disk.new ≡ D.seen disk.old }
@@ -105,7 +101,7 @@ fn enter<D: Disk>(
     }
     let line = line_of(alloc, disk, volume, tree, dir)?;
     walk.add_line(&line)?;
-    walk.add_names(alloc, dir)
+    walk.add_names(alloc, tree, dir)
 }
 
 /// Lists what is no directory.
@@ -120,10 +116,11 @@ fn pass<D: Disk>(
     requires on_disk { All (IsOnDisk (4096 * D.count disk.old)) volume.now.chunks.items }
     requires room { walk.old.listed.lines + 1 < 2 ^ 128 }
     ensures answer { IfTold (known (D.seen disk.old) (D.lost disk.old)) (λ image.
-        (before : Between) → IsBetween walk.old before
-        → IsVisited walk.old walk.new result (pass (volume_value volume.now) (disk_bytes image) (tree_value tree.now) (place_view place.now) before)) }
+        (before : Between) → IsBetween (map name_view tree.now.names.items) walk.old before
+        → IsVisited (map name_view tree.now.names.items) walk.old walk.new result
+        (pass (volume_value volume.now) (disk_bytes image) (tree_value tree.now) (place_view place.now) before)) }
     ensures lines { OnOk result (walk.new.listed.lines ≡ walk.old.listed.lines + 1) }
-    ensures len { OnOk result (vec_len walk.new.pending + vec_len walk.new.names ≡ vec_len walk.old.pending + vec_len walk.old.names) }
+    ensures len { OnOk result (left_of_walk tree.now walk.new ≡ left_of_walk tree.now walk.old) }
     ensures disk_fault { (result ≡ Err ReadFault.Disk) → HasRisen (D.faults disk.old) (D.faults disk.new) }
     ensures size { D.count disk.new ≡ D.count disk.old }
     ensures seen { D.seen disk.new ≡ D.seen disk.old }
@@ -163,10 +160,11 @@ fn visit<D: Disk>(
     requires on_disk { All (IsOnDisk (4096 * D.count disk.old)) volume.now.chunks.items }
     requires room { walk.old.listed.lines + 1 < 2 ^ 128 }
     ensures answer { IfTold (known (D.seen disk.old) (D.lost disk.old)) (λ image.
-        (before : Between) → IsBetween walk.old before
-        → IsVisited walk.old walk.new result (visit (volume_value volume.now) (disk_bytes image) (tree_value tree.now) (place_view place.now) before)) }
+        (before : Between) → IsBetween (map name_view tree.now.names.items) walk.old before
+        → IsVisited (map name_view tree.now.names.items) walk.old walk.new result
+        (visit (volume_value volume.now) (disk_bytes image) (tree_value tree.now) (place_view place.now) before)) }
     ensures lines { OnOk result (walk.new.listed.lines ≡ walk.old.listed.lines + 1) }
-    ensures len { OnOk result (vec_len walk.new.pending + vec_len walk.new.names ≡ vec_len walk.old.pending + vec_len walk.old.names) }
+    ensures len { OnOk result (left_of_walk tree.now walk.new ≡ left_of_walk tree.now walk.old) }
     ensures disk_fault { (result ≡ Err ReadFault.Disk) → HasRisen (D.faults disk.old) (D.faults disk.new) }
     ensures size { D.count disk.new ≡ D.count disk.old }
     ensures seen { D.seen disk.new ≡ D.seen disk.old }
@@ -182,10 +180,11 @@ fn visit<D: Disk>(
 }
 
 /// A walk that is to begin at a subvolume's root directory.
-fn start(alloc: Global, names: Vec<NameRow>, listed: Listed) -> Result<Walk, OutOfMemory>
-    ensures between { IfOk result (λ walk. IsBetween walk (record { listed = listed_view listed; reached = []; rows = map name_view names.items })) }
+fn start(alloc: Global, listed: Listed) -> Result<Walk, OutOfMemory>
+    ensures listed { IfOk result (λ walk. listed_view walk.listed ≡ listed_view listed) }
+    ensures reached { IfOk result (λ walk. HasReached walk.reached []) }
     ensures pending { IfOk result (λ walk. pending_view walk.pending.items ≡ root_place ∷ []) }
-    ensures len { IfOk result (λ walk. vec_len walk.pending + vec_len walk.names ≡ vec_len names + 1) }
+    ensures len { IfOk result (λ walk. vec_len walk.pending ≡ 1) }
     ensures lines { IfOk result (λ walk. walk.listed.lines ≡ listed.lines) }
 {
     let mut pending = Vec::new(alloc);
@@ -197,25 +196,23 @@ fn start(alloc: Global, names: Vec<NameRow>, listed: Listed) -> Result<Walk, Out
     Ok(Walk {
         listed,
         reached: Reached::new(alloc),
-        names,
         pending,
     })
 }
 
-/// Lists a subvolume with these names behind what is listed so far, or answers the first fault in the order of the lines.
+/// Lists a subvolume behind what is listed so far, or answers the first fault in the order of the lines.
 pub(crate) fn list_tree<D: Disk>(
     alloc: Global,
     disk: &mut D,
     volume: &Volume,
     tree: &Tree,
-    names: Vec<NameRow>,
     listed: Listed,
 ) -> Result<Listed, ReadFault>
     requires on_disk { All (IsOnDisk (4096 * D.count disk.old)) volume.now.chunks.items }
     requires room { listed.lines + 2 ^ 64 < 2 ^ 128 }
     ensures answer { IfTold (known (D.seen disk.old) (D.lost disk.old)) (λ image.
         Answers listed_view result (tree_listed (volume_value volume.now) (disk_bytes image) (tree_value tree.now)
-        (map name_view names.items) (listed_view listed))) }
+        (map name_view tree.now.names.items) (listed_view listed))) }
     ensures lines { IfOk result (λ after. after.lines ≤ listed.lines + 2 ^ 64) }
     ensures disk_fault { (result ≡ Err ReadFault.Disk) → HasRisen (D.faults disk.old) (D.faults disk.new) }
     ensures size { D.count disk.new ≡ D.count disk.old }
@@ -224,7 +221,7 @@ pub(crate) fn list_tree<D: Disk>(
     ensures told { D.told disk.new ≡ D.told disk.old }
     ensures counted { D.faults disk.old ≤ D.faults disk.new }
 {
-    let mut walk = start(alloc, names, listed)?;
+    let mut walk = start(alloc, listed)?;
     while let Some(place) = walk.pending.pop() {
         visit(alloc, disk, volume, tree, &place, &mut walk)?;
     }

@@ -1,11 +1,11 @@
-use Rattle.std.proofs.Common.{◌≡◌, ◌+◌, ◌++◌, map, vec_len}
+use Rattle.std.proofs.Common.{◌≡◌, ◌+◌, ◌++◌, vec_len}
 use Rattle.foreign_listing.specs.Names.{places_below}
-use Rattle.foreign_listing.specs.View.{entry_view, pending_view}
+use Rattle.foreign_listing.specs.View.{entries_view, pending_view}
 use Rattle.foreign_listing.proofs.places.push_places.Given as goal
 
 abbrev pub invariant-loop-name : goal.invariant-loop-name
 invariant-loop-name l = record {
-  view : places_below l.path (map entry_view l.left.items) ++ pending_view l.pending.items ≡ places_below l.path (map entry_view l.fn.names.items) ++ pending_view l.fn.pending.items;
+  view : places_below l.path (entries_view l.left.items) ++ pending_view l.pending.items ≡ places_below l.path (entries_view l.fn.names.items) ++ pending_view l.fn.pending.items;
   len : vec_len l.pending + vec_len l.left ≡ vec_len l.fn.pending + vec_len l.fn.names;
 }
 
