@@ -6,6 +6,8 @@
 
 mod operation;
 mod places;
+mod room;
 mod within;
 
 pub use operation::operate;
+pub use room::has_room;

@@ -1,0 +1,5 @@
+mod Counting
+mod Hashes
+mod With
+mod Inodes
+mod Places
