@@ -1,5 +1,5 @@
 -- Rows that are in the order of their inodes: those of one inode stand together, and are those of all rows in any order.
-use Rattle.std.proofs.Common.{◌≡◌, ◌<◌, ◌≤◌, ◌+◌, ◌-◌, ◌==◌, ℕ, zero, suc, Bool, true, false, not, ◌&&◌, List, [], ◌∷◌, length, map, filter, take, drop, get_or, All, refl, sym, ap, ◌∙◌, arith, eqb-true, eq-eqb, ne_eqb, ltb, ltb-true, ltb-false, is_lt, nat_cmp, length-drop, take_all}
+use Rattle.std.proofs.Common.{◌≡◌, ◌<◌, ◌≤◌, ◌+◌, ◌-◌, ◌==◌, ℕ, zero, suc, Bool, true, false, not, ◌&&◌, List, [], ◌∷◌, length, filter, take, drop, get_or, refl, sym, ap, ◌∙◌, arith, eqb-true, eq-eqb, ne_eqb, is_lt, nat_cmp, length-drop, take_all}
 use Rattle.std.specs.List.Sorted.{IsStableBy, ties}
 use Rattle.std.proofs.lemmas.List.{get_or-drop}
 use Rattle.std.proofs.lemmas.List.Elements.{All-contains, filter_agree, filter_passes}

@@ -1,5 +1,5 @@
 -- A listing is the same where each inode, its extents and the rows of each directory are.
-use Rattle.std.proofs.Common.{◌≡◌, ◌+◌, ◌++◌, ◌==◌, ℕ, zero, suc, Bool, true, false, not, List, [], ◌∷◌, length, map, Ok, Err, Result, cond, filter, refl, sym, ap, ◌∙◌, inl, inr, eqb-true, eq-eqb, arith}
+use Rattle.std.proofs.Common.{◌≡◌, ◌++◌, ◌==◌, ℕ, zero, suc, Bool, true, false, not, List, [], ◌∷◌, length, map, Ok, Err, Result, cond, refl, sym, ap, ◌∙◌, inl, inr, eqb-true, eq-eqb, arith}
 use Rattle.std.specs.Prelude.{codes}
 use Rattle.std.proofs.lemmas.List.{length-map}
 use Rattle.std.proofs.lemmas.Bool.{cases_Bool, false_from_ne_true, not_from_false, not_from_true, true≢false}
@@ -8,7 +8,6 @@ use Rattle.io_edge.specs.Printed.{printed}
 use Rattle.foreign_file.specs.File.{file_sum}
 use Rattle.foreign_format.specs.declared.entry.EntryKind.{EntryKind}
 use Rattle.foreign_format.specs.declared.entry.EntryKind.TheVariants.{File, Dir, Chr, Blk, Fifo, Sock, Link, Sub}
-use Rattle.foreign_format.specs.declared.extent.Extent.{Extent}
 use Rattle.foreign_format.specs.declared.fault.ForeignFault.{ForeignFault}
 use Rattle.foreign_format.specs.Answer.{and_then}
 use Rattle.foreign_items.specs.declared.items.SubvolumeItems.{SubvolumeItems}
@@ -20,11 +19,11 @@ use Rattle.foreign_listing.specs.declared.tree.Tree.{Tree}
 use Rattle.foreign_listing.specs.Listing.{tree_in}
 use Rattle.foreign_listing.specs.View.{IsTreeOf, tree_value}
 use Rattle.foreign_listing.specs.Names.{Place, in_byte_order, is_of, places_below, rows_beside, rows_of}
-use Rattle.foreign_listing.specs.Walk.{Between, Listed, Visited, enter, entered, is_dir, pass, root_place, tree_listed, visit, visit_all, with_line}
+use Rattle.foreign_listing.specs.Walk.{Between, Listed, Visited, entered, is_dir, root_place, tree_listed, visit_all, with_line}
 use Rattle.foreign_listing.proofs.Filtered.{filter_not, filter_yes}
 use Rattle.foreign_listing.proofs.Naming.{rows_same}
 use Rattle.foreign_listing.proofs.Rows.{extents_same, inodes_same}
-use Rattle.foreign_listing.proofs.Walking.{all_done, enter_first, next_place, visit_dir, visit_other}
+use Rattle.foreign_listing.proofs.Walking.{enter_first, next_place, visit_dir, visit_other}
 
 -- each inode and its extents are the same
 pub record SameTree (a b : TreeValue) : Type 0 where

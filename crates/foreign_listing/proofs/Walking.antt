@@ -12,7 +12,6 @@ use Rattle.foreign_format.specs.declared.fault.ForeignFault.{ForeignFault}
 use Rattle.foreign_format.specs.declared.fault.ReadFault.{ReadFault}
 use Rattle.foreign_format.specs.declared.fault.ReadFault.TheVariants.{Foreign, Disk, OutOfMemory}
 use Rattle.foreign_format.specs.Answer.{Answers, and_then, then_err, then_ok}
-use Rattle.foreign_items.specs.declared.rows.NameRow.{NameRow}
 use Rattle.foreign_items.specs.Rows.{NameValue}
 use Rattle.foreign_items.specs.View.{name_view}
 use Rattle.foreign_tree.specs.declared.reached.Reached.{Reached}

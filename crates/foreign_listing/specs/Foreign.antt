@@ -22,7 +22,8 @@ AreShown shown (place ∷ places) lines dirs =
     × shown place part near × AreShown shown places rest far × (lines ≡ part ++ rest) × (dirs ≡ near ++ far)
 
 -- the line of a directory, and behind it those of its names in the order of their bytes
-pub record IsDirShown (below : Place → List (List ℕ) → List ℕ → Type 0) (volume : VolumeValue) (disk : List ℕ) (tree : TreeValue) (rows : List NameValue) (place : Place) (lines : List (List ℕ)) (dirs : List ℕ) : Type 0 where
+pub record IsDirShown (below : Place → List (List ℕ) → List ℕ → Type 0) (volume : VolumeValue) (disk : List ℕ) (tree : TreeValue)
+    (rows : List NameValue) (place : Place) (lines : List (List ℕ)) (dirs : List ℕ) : Type 0 where
   pub line : List ℕ
   pub entries : List EntryValue
   pub under : List (List ℕ)

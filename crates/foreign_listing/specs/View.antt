@@ -17,7 +17,7 @@ use Rattle.foreign_listing.specs.declared.tree.Tree.{Tree}
 use Rattle.foreign_listing.specs.declared.walk.Listed as code_listed
 use Rattle.foreign_listing.specs.declared.walk.Walk.{Walk}
 use Rattle.foreign_listing.specs.Lines.{TreeValue}
-use Rattle.foreign_listing.specs.Names.{Place, in_byte_order, places_below, put_entry, rows_of}
+use Rattle.foreign_listing.specs.Names.{Place, in_byte_order, places_below, put_entry}
 use Rattle.foreign_listing.specs.Walk.{Between, Listed, Visited}
 
 abbrev pub entry_view : Name → EntryValue

@@ -1,5 +1,4 @@
-use Rattle.std.proofs.Common.{◌≡◌, ◌<◌, ◌≤◌, ◌-◌, ℕ, length, take, drop, get_or, ltb, leb, ltb-true, ltb-false, leb-true, leb-false, ap, sym, ◌∙◌, rules, arith, length-drop}
-use Rattle.std.proofs.lemmas.List.{get_or-drop}
+use Rattle.std.proofs.Common.{◌≡◌, ◌-◌, length, take, drop, ltb, leb, ltb-true, ltb-false, leb-true, leb-false, rules, arith}
 use Rattle.std.proofs.lemmas.List.Sorted.{IsNonDecreasingBy-drop, IsPartitionPoint-from_clause, IsPartitionedBy-leb, IsPartitionedBy-ltb}
 use Rattle.foreign_listing.proofs.ByInode.{between_is, take_whole}
 use Rattle.foreign_listing.proofs.by_inode.of_inode.Goals as goal

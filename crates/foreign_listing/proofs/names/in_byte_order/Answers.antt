@@ -1,4 +1,4 @@
-use Rattle.std.proofs.Common.{◌∙◌, Bor, Ok, ap, rules}
+use Rattle.std.proofs.Common.{◌∙◌, Ok, ap, rules}
 use Rattle.std.proofs.lemmas.List.Sorted.{answers_always}
 use Rattle.foreign_listing.proofs.Naming.{lt_names, names_ranked, names_sorted}
 use Rattle.foreign_listing.proofs.names.in_byte_order.Goals as goal

@@ -1,5 +1,4 @@
 use Rattle.std.proofs.Common.{◌∙◌, [], arith}
-use Rattle.foreign_items.specs.View.{name_view}
 use Rattle.foreign_listing.specs.View.{entries_view, put_entries}
 use Rattle.foreign_listing.proofs.Naming.{order_done, order_stop, order_turn}
 use Rattle.foreign_listing.proofs.names.names_in.Goals as goal
