@@ -114,7 +114,7 @@ module _ (items : List Item) (one two : Data) (agree : (at : ℕ) → Contains (
   unfolding said_inodes
   inodes_same = ap from_entries (flat_same (inode_in items one) (inode_in items two) items (λ item c. inode_same item))
 
-  subs_same : said_sub items one ≡ said_sub items two
+  pub subs_same : said_sub items one ≡ said_sub items two
   subs_same = λ i. record { inodes = inodes_same i; names = said_names items }
 
   pub faulty_same : first_faulty items one ≡ first_faulty items two

@@ -136,14 +136,16 @@ named_then (Err (trees.Incoherent ino)) = refl
 named_then (Err trees.Disk) = refl
 named_then (Err trees.OutOfMemory) = refl
 
-module _ (image : Image) (blocks id : ℕ) (want : Want) (table : Table) (on : IsTreeOn image blocks want (tree_items table (tree_wanted want)) (tree_reach table (tree_wanted want)))
-    (same : HasBytes image table (tree_reach table (tree_wanted want))) (is : IsTree table (tree_wanted want)) (are : AreBytes (tree_items table (tree_wanted want))) where
-  leaf_named : (at : ℕ) (item : Item) → Contains (leaves_below want.level table want.at.0) at → Contains (leaf_items table at) item → leaf_with image want item.0 ≡ at
+module _ (image : Image) (blocks : ℕ) (want : Want) (table : Table) (on : IsTreeOn image blocks want (tree_items table (tree_wanted want)) (tree_reach table (tree_wanted want)))
+    (same : HasBytes image table (tree_reach table (tree_wanted want))) (is : IsTree table (tree_wanted want)) where
+  pub leaf_named : (at : ℕ) (item : Item) → Contains (leaves_below want.level table want.at.0) at → Contains (leaf_items table at) item → leaf_with image want item.0 ≡ at
   unfolding leaf_with
   leaf_named at item c held =
       ap (λ (o : Option ℕ). unwrap_or o want.at.0) (found want.level image blocks true want item.0 table (tree_items table (tree_wanted want)) (tree_reach table (tree_wanted want)) on.shape same
       ∙ one_leaf table (leaves_below want.level table want.at.0) at item (subst ItemsRise (items_flat want.level table want.at.0) is.order) c held)
 
+module _ (image : Image) (blocks id : ℕ) (want : Want) (table : Table) (on : IsTreeOn image blocks want (tree_items table (tree_wanted want)) (tree_reach table (tree_wanted want)))
+    (same : HasBytes image table (tree_reach table (tree_wanted want))) (is : IsTree table (tree_wanted want)) (are : AreBytes (tree_items table (tree_wanted want))) where
   names : named (items_answer table (tree_wanted want)) ≡ first_item_fault None (tree_items table (tree_wanted want))
   names =
       named_then (leaves_checked table None (leaves_below want.level table want.at.0)) ∙ leaves_same table None (leaves_below want.level table want.at.0)
@@ -158,5 +160,5 @@ module _ (image : Image) (blocks id : ℕ) (want : Want) (table : Table) (on : I
           let first = first_is table (tree_wanted want) fault is are e in
           let some : first_item_fault None (tree_items table (tree_wanted want)) ≡ Some (first.item.0, first.why) = sym names ∙ ap named (e ∙ ap Err first.is) in
           ap (λ (f : TreeFault). image_fault id (Err f)) first.is
-          ∙ ap (λ (at : ℕ). Some (BadItem at first.item.0 first.why)) (sym (leaf_named first.at.0 first.item first.leaf first.held))
+          ∙ ap (λ (at : ℕ). Some (BadItem at first.item.0 first.why)) (sym (leaf_named image blocks want table on same is first.at.0 first.item first.leaf first.held))
           ∙ sym (ap (as_item_fault image want) some)

@@ -1,0 +1,14 @@
+mod Lists
+mod Order
+mod Loading
+mod Walking
+mod RootItems
+mod Checking
+mod Leading
+mod Judging
+mod Checkable
+mod Counting
+mod Given
+mod Standing
+mod Running
+mod Ready

@@ -1,0 +1,5 @@
+pub mod Faults
+pub mod Trees
+pub mod Roots
+pub mod Checks
+pub mod Mounted
