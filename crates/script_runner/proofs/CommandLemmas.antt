@@ -18,13 +18,18 @@ too_many_blocks fsid blocks word subs disk_blocks same above range =
 pub too_many_subvolumes : (fsid blocks subs word : List ℕ) (disk_blocks : ℕ) → word ≡ subs → ((value : ℕ) → IsNumber word value → 16 < value) → AreInRange disk_blocks fsid blocks subs → ⊥
 too_many_subvolumes fsid blocks subs word disk_blocks same above range =
     let value = range.subvolume_count in
-    let one = range.may_be_made.one_subvolume in
-    omega (arith, above value (subst (λ (text : List ℕ). IsNumber text value) (sym same) range.subvolumes_are))
+    let few = range.may_be_made.few in
+    omega (arith, few, above value (subst (λ (text : List ℕ). IsNumber text value) (sym same) range.subvolumes_are))
 
 -- what follows of what is told holds of it
 pub if_told_weaker : {A : Type 0} (told : Option A) (P Q : A → Type 0) → ((value : A) → P value → Q value) → IfTold told P → IfTold told Q
 if_told_weaker None P Q weaker holds = tt
 if_told_weaker (Some value) P Q weaker holds = weaker value holds
+
+-- what follows of two facts that are told holds of it
+pub if_told_both : {A : Type 0} (told : Option A) (P Q R : A → Type 0) → ((value : A) → P value → Q value → R value) → IfTold told P → IfTold told Q → IfTold told R
+if_told_both None P Q R weaker one two = tt
+if_told_both (Some value) P Q R weaker one two = weaker value one two
 
 -- the words of a list of four
 four_words : {A : Type 0} (words : List A) (one two three four : A) → 4 ≤ length words → length words < 5 → one ≡ slice_index_or words 0 one → two ≡ slice_index_or words 1 two → three ≡ slice_index_or words 2 three → four ≡ slice_index_or words 3 four

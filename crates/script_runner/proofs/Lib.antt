@@ -3,3 +3,5 @@ pub mod UuidLemmas
 pub mod CommandLemmas
 pub mod AnswerLemmas
 pub mod RunLemmas
+mod MadeLemmas
+mod FaultTexts

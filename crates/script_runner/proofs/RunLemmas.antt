@@ -9,6 +9,7 @@ use Rattle.leaf_sync.specs.Sync.{Holds}
 use Rattle.one_leaf.specs.OneLeaf.{IsOneLeaf}
 use Rattle.mount_volume.specs.Answer.{HasRisen, IsMountedAs, IsToldFault}
 use Rattle.mount_volume.specs.declared.fault.MountFault.{MountFault}
+use Rattle.tree_mount.specs.declared.fault.MountFault.{MountFault as TreeFault}
 use Rattle.mount_volume.specs.declared.fault.MountFault.TheVariants.{Super, Load, OneLeaf, Disk, OutOfMemory}
 use Rattle.mount_volume.specs.declared.mounted.Mounted.{Mounted}
 use Rattle.flat_model.specs.declared.request.Line.{Line}
@@ -29,7 +30,7 @@ use Rattle.script_runner.specs.declared.status.Status.TheVariants.{Done, BadScri
 use Rattle.script_runner.specs.declared.status.Status.TheVariants as status_kinds
 use Rattle.mount_volume.specs.Mount.{IsMountFault}
 use Rattle.mount_volume.proofs.Law.{no_refusal}
-use Rattle.script_runner.specs.Commands.{HasOneLeaf, IsOfScript, IsFaultOf, IsFaultless, IsPut, answer_line, status_of}
+use Rattle.script_runner.specs.Commands.{HasOneLeaf, IsOfScript, IsLeafFaultOf, IsFaultless, IsPut, answer_line, leaf_status}
 use Rattle.script_runner.specs.Run.{FromSource, IsDiskSame, HasLostNone, IsLinesAnswer, AllRun, SinkFailed, MemoryLacked, NotMounted, DiskFailed, NoMemory, IsRunAnswer, Parsed, NotParsed, NotRead, LacksMemory, IsRead, IsRunOn, Outside, outside, status_of_script, status_of_source}
 use Rattle.script_runner.proofs.AnswerLemmas.{told_whole}
 use Rattle.io_edge.proofs.Sinks.{Takes-joins, TakesFront-behind}
@@ -130,14 +131,14 @@ IsPutRun given left before after status = (text : List ℕ) × IsPut status text
 
 -- a volume that can't be mounted
 pub not_mounted : (lines : List Line) (before after : Outside) (fault : MountFault) → IsToldFault before.seen fault → (fault ≡ Disk → HasRisen before.disk_faults after.disk_faults) → IsDiskSame before after
-    → IsLinesAnswer lines before after (status_of fault) (answer_line (status_of fault))
+    → IsLinesAnswer lines before after (leaf_status fault) (answer_line (leaf_status fault))
 not_mounted lines before after (Super fault) told cause same = NotMounted (Super fault) (record { of_image = told; not_disk = λ is. cc; not_memory = λ is. cc }) same
 not_mounted lines before after (Load fault) told cause same = NotMounted (Load fault) (record { of_image = told; not_disk = λ is. cc; not_memory = λ is. cc }) same
 not_mounted lines before after OneLeaf told cause same = NotMounted OneLeaf (record { of_image = told; not_disk = λ is. cc; not_memory = λ is. cc }) same
 not_mounted lines before after Disk told cause same = DiskFailed (cause refl) same
 not_mounted lines before after OutOfMemory told cause same = NoMemory same
 
-pub not_done : (fault : MountFault) → status_of fault ≡ Done → ⊥
+pub not_done : (fault : MountFault) → leaf_status fault ≡ Done → ⊥
 not_done (Super fault) is = cc
 not_done (Load fault) is = cc
 not_done OneLeaf is = cc
@@ -145,11 +146,11 @@ not_done Disk is = cc
 not_done OutOfMemory is = cc
 
 -- and its line was told
-pub told_unmounted : (lines : List Line) (before after : Outside) (fault : MountFault) (status : Status) → status ≡ status_of fault → IsToldFault before.seen fault → (fault ≡ Disk → HasRisen before.disk_faults after.disk_faults) → IsDiskSame before after
-    → TakesFront before.taken (answer_line (status_of fault)) after.taken → ((HasRisen before.sink_faults after.sink_faults → ⊥) → Takes before.taken (answer_line (status_of fault)) after.taken) → IsPutLines lines before after status
+pub told_unmounted : (lines : List Line) (before after : Outside) (fault : MountFault) (status : Status) → status ≡ leaf_status fault → IsToldFault before.seen fault → (fault ≡ Disk → HasRisen before.disk_faults after.disk_faults) → IsDiskSame before after
+    → TakesFront before.taken (answer_line (leaf_status fault)) after.taken → ((HasRisen before.sink_faults after.sink_faults → ⊥) → Takes before.taken (answer_line (leaf_status fault)) after.taken) → IsPutLines lines before after status
 told_unmounted lines before after fault status is told cause same front whole =
     subst (IsPutLines lines before after) (sym is)
-    (answer_line (status_of fault), told_line (status_of fault) before.taken after.taken before.sink_faults after.sink_faults (not_done fault) front whole, not_mounted lines before after fault told cause same)
+    (answer_line (leaf_status fault), told_line (leaf_status fault) before.taken after.taken before.sink_faults after.sink_faults (not_done fault) front whole, not_mounted lines before after fault told cause same)
 
 -- a script that was run
 pub told_parsed : (given left : FromSource) (before after : Outside) (status : Status) (bytes : List ℕ) (lines : List Line) → IsRead given left bytes → script_of bytes ≡ Ok lines → IsPutLines lines before after status → IsPutRun given left before after status
@@ -176,19 +177,34 @@ told_unread given left before after status source_faults.OutOfMemory is some cut
     subst (IsPutRun given left before after) (sym is)
     (answer_line Memory, told_line Memory before.taken after.taken before.sink_faults after.sink_faults (λ no. cc) front whole, LacksMemory (some refl) same)
 
-same_fault : (one two : MountFault) → status_kinds.NoVolume one ≡ status_kinds.NoVolume two → one ≡ two
+same_fault : (one two : MountFault) → status_kinds.NoLeaf one ≡ status_kinds.NoLeaf two → one ≡ two
 same_fault one two is = cc
 
 -- a volume that isn't mounted has the fault that is answered
-lines_no_volume : (lines : List Line) (before after : Outside) (status : Status) (text : List ℕ) (fault : MountFault) → IsLinesAnswer lines before after status text → status ≡ status_kinds.NoVolume fault → IsFaultOf before.seen fault
+lines_no_leaf : (lines : List Line) (before after : Outside) (status : Status) (text : List ℕ) (fault : MountFault) → IsLinesAnswer lines before after status text → status ≡ status_kinds.NoLeaf fault → IsLeafFaultOf before.seen fault
+lines_no_leaf lines before after _ _ fault (AllRun run whole) is = absurd cc
+lines_no_leaf lines before after _ _ fault (SinkFailed text run so_far risen) is = absurd cc
+lines_no_leaf lines before after _ _ fault (MemoryLacked run left_over) is = absurd cc
+lines_no_leaf lines before after _ _ fault (NotMounted found of_image same) is = subst (IsLeafFaultOf before.seen) (same_fault found fault is) of_image
+lines_no_leaf lines before after _ _ fault (DiskFailed risen same) is = absurd cc
+lines_no_leaf lines before after _ _ fault (NoMemory same) is = absurd cc
+
+pub run_no_leaf : (given left : FromSource) (before after : Outside) (status : Status) (text : List ℕ) (fault : MountFault) → IsRunAnswer given left before after status text → status ≡ status_kinds.NoLeaf fault → IsLeafFaultOf before.seen fault
+run_no_leaf given left before after _ _ fault (Parsed status text bytes lines read script answer) is = lines_no_leaf lines before after status text fault answer is
+run_no_leaf given left before after _ _ fault (NotParsed bytes line kind read bad same) is = absurd cc
+run_no_leaf given left before after _ _ fault (NotRead taken cut same) is = absurd cc
+run_no_leaf given left before after _ _ fault (LacksMemory some same) is = absurd cc
+
+-- a run never answers as a `list` does
+lines_no_volume : (lines : List Line) (before after : Outside) (status : Status) (text : List ℕ) (fault : TreeFault) → IsLinesAnswer lines before after status text → status ≡ status_kinds.NoVolume fault → ⊥
 lines_no_volume lines before after _ _ fault (AllRun run whole) is = absurd cc
 lines_no_volume lines before after _ _ fault (SinkFailed text run so_far risen) is = absurd cc
 lines_no_volume lines before after _ _ fault (MemoryLacked run left_over) is = absurd cc
-lines_no_volume lines before after _ _ fault (NotMounted found of_image same) is = subst (IsFaultOf before.seen) (same_fault found fault is) of_image
+lines_no_volume lines before after _ _ fault (NotMounted found of_image same) is = absurd cc
 lines_no_volume lines before after _ _ fault (DiskFailed risen same) is = absurd cc
 lines_no_volume lines before after _ _ fault (NoMemory same) is = absurd cc
 
-pub run_no_volume : (given left : FromSource) (before after : Outside) (status : Status) (text : List ℕ) (fault : MountFault) → IsRunAnswer given left before after status text → status ≡ status_kinds.NoVolume fault → IsFaultOf before.seen fault
+pub run_no_volume : (given left : FromSource) (before after : Outside) (status : Status) (text : List ℕ) (fault : TreeFault) → IsRunAnswer given left before after status text → status ≡ status_kinds.NoVolume fault → ⊥
 run_no_volume given left before after _ _ fault (Parsed status text bytes lines read script answer) is = lines_no_volume lines before after status text fault answer is
 run_no_volume given left before after _ _ fault (NotParsed bytes line kind read bad same) is = absurd cc
 run_no_volume given left before after _ _ fault (NotRead taken cut same) is = absurd cc

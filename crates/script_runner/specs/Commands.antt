@@ -9,15 +9,18 @@ use Rattle.volume_image.specs.Tree.{Image}
 use Rattle.volume_image.specs.Stands.{Stands}
 use Rattle.volume_listing.specs.Listing.{listing_of}
 use Rattle.one_leaf.specs.OneLeaf.{IsOneLeaf}
-use Rattle.mount_volume.specs.declared.fault.MountFault.{MountFault}
-use Rattle.mount_volume.specs.declared.fault.MountFault.TheVariants.{Disk, OutOfMemory}
+use Rattle.mount_volume.specs.declared.fault.MountFault.{MountFault as LeafFault}
+use Rattle.mount_volume.specs.declared.fault.MountFault.TheVariants as leaf_faults
+use Rattle.tree_mount.specs.declared.fault.MountFault.{MountFault}
+use Rattle.tree_mount.specs.declared.fault.MountFault.TheVariants.{Disk, OutOfMemory}
+use Rattle.tree_mount.specs.Faults.{IsToldFault}
 use Rattle.mount_volume.specs.Answer.{HasRisen}
-use Rattle.mount_volume.specs.Mkfs.{MayBeMade}
+use Rattle.volume_mkfs.specs.Made.{MayBeMade}
 use Rattle.mount_volume.specs.Mount.{IsFlat, IsMountFault}
 use Rattle.script_runner.specs.declared.status.Status.{Status}
-use Rattle.script_runner.specs.declared.status.Status.TheVariants.{Done, Usage, BadScript, NoVolume, DiskFault, ReadFault, WriteFault, Memory, MkfsRange}
+use Rattle.script_runner.specs.declared.status.Status.TheVariants.{Done, Usage, BadScript, NoVolume, NoLeaf, DiskFault, ReadFault, WriteFault, Memory, MkfsRange}
 use Rattle.script_text.specs.Kinds.{kind_word}
-use Rattle.script_runner.specs.Faults.{fault_line}
+use Rattle.script_runner.specs.Faults.{fault_line, leaf_line}
 use Rattle.script_runner.specs.Words.{IsNumber, IsUuidText}
 
 -- the bytes of each word
@@ -98,6 +101,7 @@ code_of Done = 0
 code_of Usage = 1
 code_of (BadScript line kind) = 2
 code_of (NoVolume fault) = 3
+code_of (NoLeaf fault) = 3
 code_of DiskFault = 4
 code_of (ReadFault taken) = 5
 code_of WriteFault = 6
@@ -110,15 +114,28 @@ status_of Disk = DiskFault
 status_of OutOfMemory = Memory
 status_of fault = NoVolume fault
 
--- A fault that an image has, where the disk tells its image; neither the disk's nor want of memory (own).
+-- The first fault of an image, or its log, where the disk tells its image; neither the disk's nor out of memory (own).
 pub record IsFaultOf (seen : Option Image) (fault : MountFault) : Type 0 where
-  pub of_image : IfTold seen (λ image. IsMountFault image fault)
+  pub of_image : IsToldFault seen fault
   pub not_disk : fault ≢ Disk
   pub not_memory : fault ≢ OutOfMemory
+
+-- the answer to a fault of a mount of a volume in one leaf (own)
+abbrev pub leaf_status : LeafFault → Status
+leaf_status leaf_faults.Disk = DiskFault
+leaf_status leaf_faults.OutOfMemory = Memory
+leaf_status fault = NoLeaf fault
+
+-- A fault that an image has as one of a volume in one leaf, where the disk tells its image; neither the disk's nor out of memory (own).
+pub record IsLeafFaultOf (seen : Option Image) (fault : LeafFault) : Type 0 where
+  pub of_image : IfTold seen (λ image. IsMountFault image fault)
+  pub not_disk : fault ≢ leaf_faults.Disk
+  pub not_memory : fault ≢ leaf_faults.OutOfMemory
 
 -- an answer that a `mkfs`, or words that are no command, may have (own)
 abbrev pub IsOfMkfs : Status → Type 0
 IsOfMkfs (NoVolume fault) = ⊥
+IsOfMkfs (NoLeaf fault) = ⊥
 IsOfMkfs (BadScript line kind) = ⊥
 IsOfMkfs (ReadFault taken) = ⊥
 IsOfMkfs other = Unit {0}
@@ -132,14 +149,19 @@ IsOfScript other = ⊥
 -- an answer that a `list` may have (own)
 abbrev pub IsOfList : Status → Type 0
 IsOfList Usage = ⊥
+IsOfList (NoLeaf fault) = ⊥
 IsOfList MkfsRange = ⊥
 IsOfList (BadScript line kind) = ⊥
 IsOfList (ReadFault taken) = ⊥
 IsOfList other = Unit {0}
 
--- a mount finds no fault in the image (own)
+-- a mount of a volume in one leaf finds no fault in the image (own)
 abbrev pub IsFaultless : Image → Type 0
-IsFaultless image = (fault : MountFault) → IsMountFault image fault → ⊥
+IsFaultless image = (fault : LeafFault) → IsMountFault image fault → ⊥
+
+-- the image stands for some volume
+abbrev pub HasVolume : Image → Type 0
+HasVolume image = (volume : Volume) × Stands image volume
 
 -- the image stands for a volume in one leaf, by that leaf and no higher tree (own)
 pub record HasOneLeaf (image : Image) : Type 0 where
@@ -148,9 +170,9 @@ pub record HasOneLeaf (image : Image) : Type 0 where
   pub stands : Stands image volume
   pub flat : IsFlat image
 
--- the image stands for a volume in one leaf, and the text is its listing (own)
+-- the image stands for a volume, and the text is its listing (own)
 abbrev pub IsListing : List ℕ → Image → Type 0
-IsListing text image = (volume : Volume) × IsOneLeaf volume × Stands image volume × (text ≡ listing_of volume)
+IsListing text image = (volume : Volume) × Stands image volume × (text ≡ listing_of volume)
 
 -- the line of a volume that was made: its numbers as they were given (own)
 abbrev pub made_line : List (List ℕ) → List ℕ
@@ -163,6 +185,7 @@ answer_line Done = []
 answer_line Usage = codes "usage\n"
 answer_line (BadScript line kind) = codes "script " ++ decimal line ++ codes " " ++ kind_word kind ++ codes "\n"
 answer_line (NoVolume fault) = fault_line fault
+answer_line (NoLeaf fault) = leaf_line fault
 answer_line DiskFault = codes "disk\n"
 answer_line (ReadFault taken) = codes "read\n"
 answer_line WriteFault = []

@@ -7,8 +7,12 @@ use Rattle.blk_base.specs.declared.fault.BlockFault.{BlockFault}
 use Rattle.blk_base.specs.declared.fault.BlockFault.TheVariants as block_fault
 use Rattle.volume_image.specs.declared.fault.LoadFault.{LoadFault}
 use Rattle.volume_image.specs.declared.fault.LoadFault.TheVariants as load_fault
-use Rattle.mount_volume.specs.declared.fault.MountFault.{MountFault}
-use Rattle.mount_volume.specs.declared.fault.MountFault.TheVariants as mount_fault
+use Rattle.blk_base.specs.declared.fault.ItemFault.{ItemFault}
+use Rattle.blk_base.specs.declared.fault.ItemFault.TheVariants as item_fault
+use Rattle.mount_volume.specs.declared.fault.MountFault.{MountFault as LeafFault}
+use Rattle.mount_volume.specs.declared.fault.MountFault.TheVariants as leaf_fault
+use Rattle.tree_mount.specs.declared.fault.MountFault.{MountFault}
+use Rattle.tree_mount.specs.declared.fault.MountFault.TheVariants as mount_fault
 
 -- the word of the check that a superblock fails (own)
 abbrev pub super_word : SuperFault → List ℕ
@@ -43,14 +47,43 @@ load_words (load_fault.Thin at) = codes "thin " ++ decimal at.0
 load_words load_fault.Disk = codes "disk"
 load_words load_fault.OutOfMemory = codes "memory"
 
+-- the word of the check that an item fails (own)
+abbrev pub item_word : ItemFault → List ℕ
+item_word item_fault.Size = codes "size"
+item_word item_fault.NameLen = codes "namelen"
+item_word item_fault.Cut = codes "cut"
+item_word item_fault.Kind = codes "kind"
+item_word item_fault.Twice = codes "twice"
+item_word item_fault.Compressed = codes "compressed"
+item_word item_fault.Encrypted = codes "encrypted"
+item_word item_fault.Preallocated = codes "preallocated"
+item_word item_fault.Align = codes "align"
+item_word item_fault.Overlap = codes "overlap"
+
 -- the words of a mount's fault (own)
 abbrev pub fault_words : MountFault → List ℕ
 fault_words (mount_fault.Super fault) = codes "super " ++ super_word fault
+fault_words mount_fault.Log = codes "log"
 fault_words (mount_fault.Load fault) = load_words fault
-fault_words mount_fault.OneLeaf = codes "oneleaf"
+fault_words (mount_fault.Item at key fault) =
+    codes "item " ++ decimal at.0 ++ codes " " ++ decimal key.objectid ++ codes " " ++ decimal key.kind ++ codes " " ++ decimal key.offset ++ codes " " ++ item_word fault
+fault_words (mount_fault.Incoherent sub ino) = codes "incoherent " ++ decimal sub.0 ++ codes " " ++ decimal ino.0
+fault_words (mount_fault.NoRoom free need) = codes "noroom " ++ decimal free ++ codes " " ++ decimal need
 fault_words mount_fault.Disk = codes "disk"
 fault_words mount_fault.OutOfMemory = codes "memory"
 
 -- the line of a mount's fault (own)
 abbrev pub fault_line : MountFault → List ℕ
 fault_line fault = codes "volume " ++ fault_words fault ++ codes "\n"
+
+-- the words of a fault of a mount of a volume in one leaf (own)
+abbrev pub leaf_words : LeafFault → List ℕ
+leaf_words (leaf_fault.Super fault) = codes "super " ++ super_word fault
+leaf_words (leaf_fault.Load fault) = load_words fault
+leaf_words leaf_fault.OneLeaf = codes "oneleaf"
+leaf_words leaf_fault.Disk = codes "disk"
+leaf_words leaf_fault.OutOfMemory = codes "memory"
+
+-- its line (own)
+abbrev pub leaf_line : LeafFault → List ℕ
+leaf_line fault = codes "volume " ++ leaf_words fault ++ codes "\n"

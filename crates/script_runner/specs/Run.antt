@@ -7,7 +7,7 @@ use Rattle.volume_image.specs.Tree.{Image}
 use Rattle.volume_image.specs.Stands.{Stands}
 use Rattle.one_leaf.specs.OneLeaf.{IsOneLeaf}
 use Rattle.mount_volume.specs.Answer.{HasRisen}
-use Rattle.mount_volume.specs.declared.fault.MountFault.{MountFault}
+use Rattle.mount_volume.specs.declared.fault.MountFault.{MountFault as LeafFault}
 use Rattle.script_text.specs.declared.fault.ScriptKind.{ScriptKind}
 use Rattle.script_text.specs.declared.fault.ScriptFault.{ScriptFault}
 use Rattle.script_text.specs.declared.fault.ScriptFault.TheVariants as script_faults
@@ -21,8 +21,8 @@ use Rattle.leaf_run.specs.Run.{RunLeaves}
 use Rattle.script_answer.specs.Words.{done_line}
 use Rattle.leaf_lines.specs.Lines.{FailsInLine, HasRun, TakesUpTo, calls_text, run_text}
 use Rattle.script_runner.specs.declared.status.Status.{Status}
-use Rattle.script_runner.specs.declared.status.Status.TheVariants.{Done, BadScript, NoVolume, DiskFault, ReadFault, WriteFault, Memory}
-use Rattle.script_runner.specs.Commands.{IsFaultOf, IsFaultless, answer_line}
+use Rattle.script_runner.specs.declared.status.Status.TheVariants.{Done, BadScript, NoLeaf, DiskFault, ReadFault, WriteFault, Memory}
+use Rattle.script_runner.specs.Commands.{IsLeafFaultOf, IsFaultless, answer_line}
 
 -- what the source has left, where it tells that, and how often it failed (own)
 pub record FromSource : Type 0 where
@@ -87,7 +87,7 @@ pub data IsLinesAnswer (lines : List Line) (before after : Outside) : Status →
   SinkFailed : (text : List ℕ) → (run : IsRunOn lines before after) → IsTextSoFar lines before after run text
       → HasRisen before.sink_faults after.sink_faults → IsLinesAnswer lines before after WriteFault text
   MemoryLacked : (run : IsRunOn lines before after) → (run.ran.rest ≡ [] → ⊥) → IsLinesAnswer lines before after Memory (calls_text run.ran.front run.ran.calls ++ answer_line Memory)
-  NotMounted : (fault : MountFault) → IsFaultOf before.seen fault → IsDiskSame before after → IsLinesAnswer lines before after (NoVolume fault) (answer_line (NoVolume fault))
+  NotMounted : (fault : LeafFault) → IsLeafFaultOf before.seen fault → IsDiskSame before after → IsLinesAnswer lines before after (NoLeaf fault) (answer_line (NoLeaf fault))
   DiskFailed : HasRisen before.disk_faults after.disk_faults → IsDiskSame before after → IsLinesAnswer lines before after DiskFault (answer_line DiskFault)
   NoMemory : IsDiskSame before after → IsLinesAnswer lines before after Memory (answer_line Memory)
 

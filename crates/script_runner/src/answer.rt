@@ -7,7 +7,7 @@ ghost use Rattle.mount_volume.specs.Answer.{HasRisen};
 ghost use Rattle.script_runner.specs.Commands.{answer_line};
 
 use crate::Status;
-use crate::fault_text::put_fault;
+use crate::fault_text::{put_fault, put_leaf_fault};
 use io_edge::{Sink, SinkFailed, put, put_all};
 use itoa::Buffer;
 use script_text::ScriptKind;
@@ -35,6 +35,7 @@ pub(crate) fn put_answer<K: Sink>(to: &mut K, status: Status) -> Result<(), Sink
         Status::Usage => put(to, b"usage\n"),
         Status::BadScript { line, kind } => put_script_fault(to, line, kind),
         Status::NoVolume(fault) => put_fault(to, fault),
+        Status::NoLeaf(fault) => put_leaf_fault(to, fault),
         Status::DiskFault => put(to, b"disk\n"),
         Status::ReadFault { .. } => put(to, b"read\n"),
         Status::Memory => put(to, b"memory\n"),

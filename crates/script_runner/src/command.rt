@@ -1,15 +1,14 @@
 ghost use Rattle.std.specs.Prelude.{◌≡◌, ◌≤◌, ◌⊎◌, ◌↔◌, ◌∷◌, [], ℕ, List, ◌≢◌, OnOk, OnErr, IsTrue};
-ghost use Rattle.flat_model.specs.Volume.{bare_volume};
 ghost use Rattle.disk_model.specs.Disk.{IfTold, known};
 ghost use Rattle.io_edge.specs.Edge.{Takes, TakesFront, HasCause};
-ghost use Rattle.volume_image.specs.Stands.{Stands};
-ghost use Rattle.mount_volume.specs.declared.fault.MountFault.{MountFault};
-ghost use Rattle.mount_volume.specs.Answer.{HasRisen};
+ghost use Rattle.blk_base.specs.Causes.{HasRisen};
+ghost use Rattle.mount_volume.specs.declared.fault.MountFault.{MountFault as LeafFault};
+ghost use Rattle.tree_mount.specs.declared.fault.MountFault.{MountFault};
 ghost use Rattle.script_text.specs.declared.fault.ScriptKind.{ScriptKind};
 ghost use Rattle.script_runner.specs.Run.{IsRunAnswer, outside};
-ghost use Rattle.script_runner.specs.Commands.{IsOfMkfs, AreInRange, HasOneLeaf, IsAnyMkfs, IsCommand, IsDone, IsFaultOf, IsFaultless, IsInRange, IsList, IsOfScript, IsOutOfRange, IsRun, IsTextOf, IsPut, bytes_of, made_line};
-ghost use Rattle.mount_volume.specs.Mkfs.{CrashLeaves, IsOldOrBare};
-ghost use Rattle.script_runner.specs.Mkfs.{HasSuperAsked, HasSuperOf};
+ghost use Rattle.script_runner.specs.Commands.{IsOfMkfs, AreInRange, HasOneLeaf, HasVolume, IsAnyMkfs, IsCommand, IsDone, IsFaultOf, IsInRange, IsLeafFaultOf, IsList, IsOfScript, IsOutOfRange, IsRun, IsTextOf, IsPut, bytes_of, made_line};
+ghost use Rattle.volume_mkfs.specs.Made.{CrashLeaves};
+ghost use Rattle.script_runner.specs.Mkfs.{HasVolumeAsked, HasVolumeOf, IsOldOrAsked, IsOldOrMade};
 
 use crate::Status;
 use crate::answer::answer;
@@ -19,13 +18,13 @@ use crate::run::run;
 use crate::text::put_made;
 use disk_model::Disk;
 use io_edge::{Sink, SinkFailed, Source};
-use mount_volume::{MkfsFault, mkfs};
 use std::alloc::Global;
+use volume_mkfs::{MkfsFault, mkfs};
 
 /// Does what the words ask, on the disk, and writes text about it to the sink. The words are those behind an image's
 /// path.
 ///
-/// `mkfs FSID BLOCKS SUBS` makes an empty volume and writes `made BLOCKS SUBS`; SUBS is 1 until there are full commits.
+/// `mkfs FSID BLOCKS SUBS` makes an empty volume and writes `made BLOCKS SUBS`.
 /// `list` mounts the volume, which writes nothing to the disk, and writes its listing. `run` reads a script from the source,
 /// to its end, mounts the volume and runs the script: it writes a line for each call that has finished, and then `done N`,
 /// with N the number of calls. Other words are no command. Every other answer but `WriteFault` has a line of its own. The
@@ -43,12 +42,13 @@ pub fn drive<S: Source, K: Sink, D: Disk>(
     ensures range { (result ≡ Status.MkfsRange) ↔ IsOutOfRange (bytes_of words.now) (D.count disk.old) }
     ensures bad_script { (line : ℕ) (kind : ScriptKind) → (result ≡ Status.BadScript line kind) → IsRun (bytes_of words.now) × (disk.new ≡ disk.old) }
     ensures read_fault { (taken : ℕ) → (result ≡ Status.ReadFault taken) → IsRun (bytes_of words.now) × (disk.new ≡ disk.old) }
-    ensures no_volume { (fault : MountFault) → (result ≡ Status.NoVolume fault) → (IsList (bytes_of words.now) ⊎ IsRun (bytes_of words.now)) × IsFaultOf (known (D.seen disk.old) (D.lost disk.old)) fault }
+    ensures no_volume { (fault : MountFault) → (result ≡ Status.NoVolume fault) → IsList (bytes_of words.now) × IsFaultOf (known (D.seen disk.old) (D.lost disk.old)) fault }
+    ensures no_leaf { (fault : LeafFault) → (result ≡ Status.NoLeaf fault) → IsRun (bytes_of words.now) × IsLeafFaultOf (known (D.seen disk.old) (D.lost disk.old)) fault }
     ensures disk_fault { (result ≡ Status.DiskFault) → HasRisen (D.faults disk.old) (D.faults disk.new) }
     ensures write_fault { (result ≡ Status.WriteFault) → HasRisen (K.faults to.old) (K.faults to.new) }
     ensures complete { IsInRange (bytes_of words.now) (D.count disk.old) → (HasRisen (D.faults disk.old) (D.faults disk.new) → ⊥) → (HasRisen (K.faults to.old) (K.faults to.new) → ⊥)
         → (result ≡ Status.Done) ⊎ (result ≡ Status.Memory) }
-    ensures list_complete { IsList (bytes_of words.now) → IfTold (known (D.seen disk.old) (D.lost disk.old)) (λ image. HasOneLeaf image
+    ensures list_complete { IsList (bytes_of words.now) → IfTold (known (D.seen disk.old) (D.lost disk.old)) (λ image. HasVolume image
         → (HasRisen (D.faults disk.old) (D.faults disk.new) → ⊥) → (HasRisen (K.faults to.old) (K.faults to.new) → ⊥) → (result ≡ Status.Done) ⊎ (result ≡ Status.Memory)) }
     ensures run_complete { IsRun (bytes_of words.now) → IfTold (known (D.seen disk.old) (D.lost disk.old)) (λ image. HasOneLeaf image
         → (HasRisen (D.faults disk.old) (D.faults disk.new) → ⊥) → (HasRisen (K.faults to.old) (K.faults to.new) → ⊥) → (result ≡ Status.Done) ⊎ (result ≡ Status.Memory) ⊎ IsOfScript result) }
@@ -58,7 +58,6 @@ pub fn drive<S: Source, K: Sink, D: Disk>(
     ensures untouched { (result ≡ Status.Usage) ⊎ (result ≡ Status.MkfsRange) → disk.new ≡ disk.old }
     ensures mkfs_untouched { IsAnyMkfs (bytes_of words.now) → (result ≡ Status.Memory) → disk.new ≡ disk.old }
     ensures list_untouched { IsList (bytes_of words.now) → (D.seen disk.new ≡ D.seen disk.old) × (D.lost disk.new ≡ D.lost disk.old) × (D.told disk.new ≡ D.told disk.old) }
-    ensures list_sound { IsList (bytes_of words.now) → IsDone result → IfTold (known (D.seen disk.old) (D.lost disk.old)) IsFaultless }
     ensures text { (IsRun (bytes_of words.now) → ⊥) → (text : List ℕ) × IsTextOf (bytes_of words.now) (known (D.seen disk.old) (D.lost disk.old)) result text × IsPut result text (K.taken to.old) (K.taken to.new) (K.faults to.old) (K.faults to.new) }
 
     // What a run of a script answers, what it writes, and what a crash at any moment leaves.
@@ -67,9 +66,8 @@ pub fn drive<S: Source, K: Sink, D: Disk>(
         (outside (known (D.seen disk.old) (D.lost disk.old)) (D.told disk.old) (K.taken to.old) (D.faults disk.old) (K.faults to.old)) (outside (known (D.seen disk.new) (D.lost disk.new)) (D.told disk.new) (K.taken to.new) (D.faults disk.new) (K.faults to.new)) result text }
 
     // What is on the disk once a volume was made, and what a crash at any moment leaves.
-    ensures stands { IsAnyMkfs (bytes_of words.now) → IsDone result → IfTold (D.seen disk.new) (λ image. Stands image (bare_volume 1)) }
-    ensures superblock { IsAnyMkfs (bytes_of words.now) → IsDone result → IfTold (D.seen disk.new) (HasSuperAsked (bytes_of words.now)) }
-    ensures crash { (IsRun (bytes_of words.now) → ⊥) → CrashLeaves (D.told disk.old) (D.told disk.new) IsOldOrBare }
+    ensures made { IsAnyMkfs (bytes_of words.now) → IsDone result → IfTold (D.seen disk.new) (HasVolumeAsked (bytes_of words.now)) }
+    ensures crash { (IsRun (bytes_of words.now) → ⊥) → CrashLeaves (D.told disk.old) (D.told disk.new) (IsOldOrAsked (bytes_of words.now)) }
 
     ensures size { D.count disk.new ≡ D.count disk.old }
     ensures source_counted { S.faults from.old ≤ S.faults from.new }
@@ -107,9 +105,8 @@ fn execute<D: Disk>(alloc: Global, words: &[String], disk: &mut D) -> Status
     ensures no_text { result ≢ Status.WriteFault }
     ensures no_other { IsOfMkfs result }
     ensures untouched { (result ≡ Status.Usage) ⊎ (result ≡ Status.MkfsRange) ⊎ (result ≡ Status.Memory) → disk.new ≡ disk.old }
-    ensures stands { (result ≡ Status.Done) → IfTold (D.seen disk.new) (λ image. Stands image (bare_volume 1)) }
-    ensures superblock { (result ≡ Status.Done) → IfTold (D.seen disk.new) (HasSuperAsked (bytes_of words.now)) }
-    ensures crash { CrashLeaves (D.told disk.old) (D.told disk.new) IsOldOrBare }
+    ensures made { (result ≡ Status.Done) → IfTold (D.seen disk.new) (HasVolumeAsked (bytes_of words.now)) }
+    ensures crash { CrashLeaves (D.told disk.old) (D.told disk.new) (IsOldOrAsked (bytes_of words.now)) }
     ensures size { D.count disk.new ≡ D.count disk.old }
     ensures counted { D.faults disk.old ≤ D.faults disk.new }
 {
@@ -127,9 +124,8 @@ fn make<D: Disk>(alloc: Global, fsid: &str, blocks: &str, subs: &str, disk: &mut
     ensures range { (result ≡ Status.MkfsRange) ↔ (AreInRange (D.count disk.old) fsid.now blocks.now subs.now → ⊥) }
     ensures disk_fault { (result ≡ Status.DiskFault) → HasRisen (D.faults disk.old) (D.faults disk.new) }
     ensures untouched { (result ≡ Status.MkfsRange) ⊎ (result ≡ Status.Memory) → disk.new ≡ disk.old }
-    ensures stands { (result ≡ Status.Done) → IfTold (D.seen disk.new) (λ image. Stands image (bare_volume 1)) }
-    ensures superblock { (result ≡ Status.Done) → IfTold (D.seen disk.new) (HasSuperOf fsid.now blocks.now) }
-    ensures crash { CrashLeaves (D.told disk.old) (D.told disk.new) IsOldOrBare }
+    ensures made { (result ≡ Status.Done) → IfTold (D.seen disk.new) (HasVolumeOf fsid.now blocks.now subs.now) }
+    ensures crash { CrashLeaves (D.told disk.old) (D.told disk.new) (IsOldOrMade subs.now) }
     ensures size { D.count disk.new ≡ D.count disk.old }
     ensures counted { D.faults disk.old ≤ D.faults disk.new }
 {

@@ -2,12 +2,14 @@
 ghost use Rattle.std.specs.Prelude.{◌≡◌, ◌++◌, OnOk, OnErr, codes};
 ghost use Rattle.std.specs.Fmt.{decimal};
 ghost use Rattle.io_edge.specs.Edge.{Takes, TakesFront, HasCause};
-ghost use Rattle.script_runner.specs.Faults.{super_word, block_word, load_words, fault_line};
+ghost use Rattle.script_runner.specs.Faults.{super_word, block_word, load_words, item_word, fault_line, leaf_line};
+ghost use Rattle.tree_mount.specs.declared.fault.MountFault.TheVariants as mount_fault;
 
-use blk_base::{Addr, BlockFault, SuperFault};
+use blk_base::{Addr, BlockFault, ItemFault, Key, SuperFault};
 use io_edge::{Sink, SinkFailed, put_all};
 use itoa::Buffer;
-use mount_volume::MountFault;
+use mount_volume::MountFault as LeafFault;
+use tree_mount::MountFault;
 use volume_image::LoadFault;
 
 /// The word of the check that a superblock fails.
@@ -91,6 +93,71 @@ fn put_load_fault<K: Sink>(to: &mut K, fault: LoadFault) -> Result<(), SinkFaile
     }
 }
 
+/// The word of the check that an item fails.
+fn item_word(fault: ItemFault) -> &'static str
+    ensures { result.now ≡ item_word fault }
+{
+    match fault {
+        ItemFault::Size => "size",
+        ItemFault::NameLen => "namelen",
+        ItemFault::Cut => "cut",
+        ItemFault::Kind => "kind",
+        ItemFault::Twice => "twice",
+        ItemFault::Compressed => "compressed",
+        ItemFault::Encrypted => "encrypted",
+        ItemFault::Preallocated => "preallocated",
+        ItemFault::Align => "align",
+        ItemFault::Overlap => "overlap",
+    }
+}
+
+/// Writes the line of an item's fault: the leaf's byte address, the key, and the check.
+fn put_item_fault<K: Sink>(
+    to: &mut K,
+    at: Addr,
+    key: Key,
+    fault: ItemFault,
+) -> Result<(), SinkFailed>
+    ensures whole { OnOk result (Takes (K.taken to.old) (fault_line (mount_fault.Item at key fault)) (K.taken to.new)) }
+    ensures front { OnErr result (TakesFront (K.taken to.old) (fault_line (mount_fault.Item at key fault)) (K.taken to.new)) }
+    ensures cause { HasCause (K.faults to.old) (K.faults to.new) result }
+{
+    let mut address = Buffer::new();
+    let mut objectid = Buffer::new();
+    let mut kind = Buffer::new();
+    let mut offset = Buffer::new();
+    put_all(
+        to,
+        &[
+            "volume item ",
+            address.format(at.0),
+            " ",
+            objectid.format(key.objectid),
+            " ",
+            kind.format(key.kind),
+            " ",
+            offset.format(key.offset),
+            " ",
+            item_word(fault),
+            "\n",
+        ],
+    )
+}
+
+/// Writes a line of words and two numbers, each behind a space.
+fn put_two<K: Sink>(to: &mut K, before: &str, one: u64, two: u64) -> Result<(), SinkFailed>
+    ensures whole { OnOk result (Takes (K.taken to.old) (before.now ++ decimal one ++ codes " " ++ decimal two ++ codes "\n") (K.taken to.new)) }
+    ensures front { OnErr result (TakesFront (K.taken to.old) (before.now ++ decimal one ++ codes " " ++ decimal two ++ codes "\n") (K.taken to.new)) }
+    ensures cause { HasCause (K.faults to.old) (K.faults to.new) result }
+{
+    let mut first = Buffer::new();
+    let mut second = Buffer::new();
+    put_all(
+        to,
+        &[before, first.format(one), " ", second.format(two), "\n"],
+    )
+}
+
 /// Writes the line of a mount's fault.
 pub(crate) fn put_fault<K: Sink>(to: &mut K, fault: MountFault) -> Result<(), SinkFailed>
     ensures whole { OnOk result (Takes (K.taken to.old) (fault_line fault) (K.taken to.new)) }
@@ -99,9 +166,27 @@ pub(crate) fn put_fault<K: Sink>(to: &mut K, fault: MountFault) -> Result<(), Si
 {
     match fault {
         MountFault::Super(check) => put_all(to, &["volume super ", super_word(check), "\n"]),
+        MountFault::Log => put_all(to, &["volume log\n"]),
         MountFault::Load(fault) => put_load_fault(to, fault),
-        MountFault::OneLeaf => put_all(to, &["volume oneleaf\n"]),
+        MountFault::Item(at, key, fault) => put_item_fault(to, at, key, fault),
+        MountFault::Incoherent(sub, ino) => put_two(to, "volume incoherent ", sub.0, ino.0),
+        MountFault::NoRoom { free, need } => put_two(to, "volume noroom ", free, need),
         MountFault::Disk => put_all(to, &["volume disk\n"]),
         MountFault::OutOfMemory => put_all(to, &["volume memory\n"]),
+    }
+}
+
+/// Writes the line of a fault of a mount of a volume in one leaf.
+pub(crate) fn put_leaf_fault<K: Sink>(to: &mut K, fault: LeafFault) -> Result<(), SinkFailed>
+    ensures whole { OnOk result (Takes (K.taken to.old) (leaf_line fault) (K.taken to.new)) }
+    ensures front { OnErr result (TakesFront (K.taken to.old) (leaf_line fault) (K.taken to.new)) }
+    ensures cause { HasCause (K.faults to.old) (K.faults to.new) result }
+{
+    match fault {
+        LeafFault::Super(check) => put_all(to, &["volume super ", super_word(check), "\n"]),
+        LeafFault::Load(fault) => put_load_fault(to, fault),
+        LeafFault::OneLeaf => put_all(to, &["volume oneleaf\n"]),
+        LeafFault::Disk => put_all(to, &["volume disk\n"]),
+        LeafFault::OutOfMemory => put_all(to, &["volume memory\n"]),
     }
 }

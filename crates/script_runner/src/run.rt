@@ -2,18 +2,17 @@
 ghost use Rattle.std.specs.Prelude.{◌≡◌, ◌≤◌, List, ℕ};
 ghost use Rattle.disk_model.specs.Disk.{IfTold, known};
 ghost use Rattle.mount_volume.specs.Answer.{IsMountedAs, IsReady};
-ghost use Rattle.script_runner.specs.Commands.{IsFaultless, IsOfScript, IsPut};
+ghost use Rattle.script_runner.specs.Commands.{IsFaultless, IsOfScript, IsPut, leaf_status};
 ghost use Rattle.leaf_lines.specs.Lines.{AreAllowed};
 ghost use Rattle.script_runner.specs.Run.{FromSource, IsLinesAnswer, IsRead, IsRunAnswer, outside, status_of_script, status_of_source};
 
 use crate::Status;
 use crate::answer::answer;
-use crate::list::status_of;
 use disk_model::Disk;
 use io_edge::{ReadFault, Sink, Source, read_all};
 use leaf_lines::{RunFault, run_lines};
 use leaf_run::LeafRun;
-use mount_volume::{Mounted, mount};
+use mount_volume::{MountFault, Mounted, mount};
 use script_text::{Line, ScriptFault, parse};
 use std::alloc::Global;
 
@@ -34,6 +33,17 @@ fn status_of_script(fault: ScriptFault) -> Status
     match fault {
         ScriptFault::Bad { line, kind } => Status::BadScript { line, kind },
         ScriptFault::OutOfMemory => Status::Memory,
+    }
+}
+
+/// The answer to a fault of the mount.
+fn leaf_status(fault: MountFault) -> Status
+    ensures { result ≡ leaf_status fault }
+{
+    match fault {
+        MountFault::Disk => Status::DiskFault,
+        MountFault::OutOfMemory => Status::Memory,
+        _ => Status::NoLeaf(fault),
     }
 }
 
@@ -73,7 +83,7 @@ fn run_script<K: Sink, D: Disk>(alloc: Global, lines: &[Line], disk: &mut D, to:
 {
     match mount(alloc, disk) {
         Ok(mounted) => run_mounted(alloc, lines, mounted, disk, to),
-        Err(fault) => answer(status_of(fault), to),
+        Err(fault) => answer(leaf_status(fault), to),
     }
 }
 

@@ -6,11 +6,11 @@ use io_edge::MemorySink;
 use std::alloc::Global;
 use std::test::Fail;
 
-/// A disk with an empty volume of 4096 blocks.
-fn made(alloc: Global) -> Result<NeverFails, Fail> {
+/// A disk with an empty volume of 4096 blocks and so many subvolumes.
+fn made(alloc: Global, subs: &str) -> Result<NeverFails, Fail> {
     let mut disk = NeverFails::new(alloc, 4096)?;
     let mut to = MemorySink::new(alloc, &[])?;
-    run(alloc, &["mkfs", FSID, "4096", "1"], &mut disk, &mut to)?;
+    run(alloc, &["mkfs", FSID, "4096", subs], &mut disk, &mut to)?;
     Ok(disk)
 }
 
@@ -34,13 +34,20 @@ fn list<D: Disk>(alloc: Global, disk: &mut D, fails: u64) -> Result<(u8, MemoryS
 
 #[test]
 fn a_made_volume_has_its_root_directory(rt: HostRuntime) -> Result<(), Fail> {
-    let mut disk = made(rt.alloc())?;
+    let mut disk = made(rt.alloc(), "1")?;
     let (code, to) = list(rt.alloc(), &mut disk, 0)?;
     assert_eq!(rt; code, 0);
     assert_eq!(rt; to.bytes(), b"sub 5\n256 dir 1 0 - /\ndone 1\n".as_slice());
     let (code, to) = list(rt.alloc(), &mut disk, 1)?;
     assert_eq!(rt; code, 6);
     assert_eq!(rt; to.bytes().len(), 0);
+    let mut disk = made(rt.alloc(), "2")?;
+    let (code, to) = list(rt.alloc(), &mut disk, 0)?;
+    assert_eq!(rt; code, 0);
+    assert_eq!(rt;
+        to.bytes(),
+        b"sub 5\n256 dir 1 0 - /\nsub 256\n256 dir 1 0 - /\ndone 2\n".as_slice()
+    );
     Ok(())
 }
 
@@ -48,7 +55,7 @@ fn a_made_volume_has_its_root_directory(rt: HostRuntime) -> Result<(), Fail> {
 fn listed(alloc: Global, superblock: &mut Block) -> Result<MemorySink, Fail> {
     let sum = crc32c(&superblock[32..]);
     put_u32(superblock, 0, sum);
-    let mut disk = made(alloc)?;
+    let mut disk = made(alloc, "1")?;
     if disk.blocks() <= 16 || disk.write_super(superblock).is_err() {
         return Err(Fail::from("no superblock"));
     }
@@ -57,7 +64,7 @@ fn listed(alloc: Global, superblock: &mut Block) -> Result<MemorySink, Fail> {
 
 /// The superblock of an empty volume of 4096 blocks.
 fn superblock(alloc: Global) -> Result<Block, Fail> {
-    let mut disk = made(alloc)?;
+    let mut disk = made(alloc, "1")?;
     let mut block = [0; 4096];
     if disk.blocks() <= 16 || disk.read(16, &mut block).is_err() {
         return Err(Fail::from("no superblock"));
@@ -94,7 +101,7 @@ fn other_images_are_named(rt: HostRuntime) -> Result<(), Fail> {
     );
 
     // With a byte of the subvolume's leaf changed.
-    let mut changed = made(alloc)?;
+    let mut changed = made(alloc, "1")?;
     change(&mut changed)?;
     let (code, to) = list(alloc, &mut changed, 0)?;
     assert_eq!(rt; code, 3);

@@ -40,7 +40,7 @@ fn makes_the_first_volume(rt: HostRuntime) -> Result<(), Fail> {
         0
     );
     assert_eq!(rt; to.bytes(), b"made 4096 1\n".as_slice());
-    assert_eq!(rt; disk.calls(), [17, 18, 0, 16].as_slice());
+    assert_eq!(rt; disk.calls(), [18, 17, 0, 16].as_slice());
     let Some(superblock) = disk.block(16) else {
         return Err(Fail::from("no superblock"));
     };
@@ -88,10 +88,15 @@ fn words_and_numbers_have_one_form(rt: HostRuntime) -> Result<(), Fail> {
             (8, 0)
         );
     }
+    // A leaf for each subvolume, and the root tree: one leaf, or two below a node.
+    for (subs, wanted) in [("2", (0, 5)), ("16", (0, 21))] {
+        assert_eq!(rt;
+            code::<4096>(rt.alloc(), &["mkfs", FSID, "4096", subs])?,
+            wanted
+        );
+    }
     for subs in [
         "0",
-        "2",
-        "16",
         "17",
         "",
         "01",
@@ -164,8 +169,8 @@ fn each_fault_has_its_answer(rt: HostRuntime) -> Result<(), Fail> {
         ("1", 3, 0, "disk\n", (4, 3, true)),
         ("1", 4, 0, "disk\n", (4, 4, true)),
         ("1", 0, 3, "made 4096", (6, 4, true)),
-        ("2", 0, 1, "", (8, 0, true)),
-        ("2", 0, 0, "range\n", (8, 0, true)),
+        ("17", 0, 1, "", (8, 0, true)),
+        ("17", 0, 0, "range\n", (8, 0, true)),
     ];
     for (subs, disk_fails, sink_fails, text, wanted) in rows {
         assert_eq!(rt;

@@ -1,21 +1,42 @@
-use Rattle.std.proofs.Common.{◌≡◌, refl}
-use Rattle.blk_base.specs.Superblock.{super_bytes}
-use Rattle.volume_image.specs.Stands.{super_block}
-use Rattle.mount_volume.specs.Mkfs.{made_super}
-use Rattle.script_runner.specs.Mkfs.{HasSuperOf}
-use Rattle.mount_volume.proofs.MkfsBlocks.{crash_same}
-use Rattle.script_runner.proofs.CommandLemmas.{if_told_weaker}
+use Rattle.std.proofs.Common.{inl, refl}
+use Rattle.flat_model.specs.Volume.{bare_volume}
+use Rattle.volume_image.specs.Stands.{Stands}
+use Rattle.volume_mkfs.specs.Made.{HasNewSuper, IsOldOrBare}
+use Rattle.volume_mkfs.proofs.Written.{crash_same, crash_weaker}
+use Rattle.script_runner.specs.Mkfs.{HasVolumeOf, IsOldOrMade}
+use Rattle.script_runner.proofs.CommandLemmas.{if_told_both}
+use Rattle.script_runner.proofs.MadeLemmas.{old_or_made}
 use Rattle.script_runner.proofs.command.make.Goals as goal
 
 pub returns-in_default-clause-range : goal.returns-in_default-clause-range
 returns-in_default-clause-range g c = (λ _. c.in_default.ensures.none refl (g.D.Disk.count c.args.disk.now), λ _. refl)
 
 pub returns-in_default-clause-crash : goal.returns-in_default-clause-crash
-returns-in_default-clause-crash g c = crash_same (g.D.Disk.told c.args.disk.now)
+returns-in_default-clause-crash g c = crash_same (IsOldOrMade c.args.subs.now) (g.D.Disk.told c.args.disk.now) (λ superblock image same. inl same)
 
-pub returns-in-Ok-clause-superblock : goal.returns-in-Ok-clause-superblock
-returns-in-Ok-clause-superblock g c = λ _.
+pub returns-in-Ok-clause-made : goal.returns-in-Ok-clause-made
+returns-in-Ok-clause-made g c = λ _.
     let request = c.in-Some.request in
     let says = c.in-Some.ensures.some in
-    if_told_weaker (g.D.Disk.seen c.mkfs.new.disk) (λ image. super_block image ≡ super_bytes (made_super request.fsid request.block_count)) (HasSuperOf c.args.fsid.now c.args.blocks.now)
-    (λ image is. (request.fsid, request.block_count, says.bytes_are, says.blocks_are, is)) c.in-Ok.ensures.superblock
+    if_told_both (g.D.Disk.seen c.mkfs.new.disk) (λ image. Stands image (bare_volume request.subvolume_count)) (HasNewSuper request.fsid request.block_count) (HasVolumeOf c.args.fsid.now c.args.blocks.now c.args.subs.now)
+    (λ image stands super. record { bytes = request.fsid; block_count = request.block_count; subvolume_count = request.subvolume_count; says = says; stands = stands; superblock = super }) c.in-Ok.ensures.stands c.in-Ok.ensures.superblock
+
+pub returns-in-Ok-clause-crash : goal.returns-in-Ok-clause-crash
+returns-in-Ok-clause-crash g c =
+    crash_weaker (g.D.Disk.told c.args.disk.now) (g.D.Disk.told c.mkfs.new.disk) (IsOldOrBare c.in-Some.request.subvolume_count) (IsOldOrMade c.args.subs.now)
+    (old_or_made c.args.subs.now c.in-Some.request.subvolume_count c.in-Some.ensures.some.subvolumes_are) c.mkfs.ensures.crash
+
+pub returns-in-Err-Range-clause-crash : goal.returns-in-Err-Range-clause-crash
+returns-in-Err-Range-clause-crash g c =
+    crash_weaker (g.D.Disk.told c.args.disk.now) (g.D.Disk.told c.mkfs.new.disk) (IsOldOrBare c.in-Some.request.subvolume_count) (IsOldOrMade c.args.subs.now)
+    (old_or_made c.args.subs.now c.in-Some.request.subvolume_count c.in-Some.ensures.some.subvolumes_are) c.mkfs.ensures.crash
+
+pub returns-in-Err-Disk-clause-crash : goal.returns-in-Err-Disk-clause-crash
+returns-in-Err-Disk-clause-crash g c =
+    crash_weaker (g.D.Disk.told c.args.disk.now) (g.D.Disk.told c.mkfs.new.disk) (IsOldOrBare c.in-Some.request.subvolume_count) (IsOldOrMade c.args.subs.now)
+    (old_or_made c.args.subs.now c.in-Some.request.subvolume_count c.in-Some.ensures.some.subvolumes_are) c.mkfs.ensures.crash
+
+pub returns-in-Err-OutOfMemory-clause-crash : goal.returns-in-Err-OutOfMemory-clause-crash
+returns-in-Err-OutOfMemory-clause-crash g c =
+    crash_weaker (g.D.Disk.told c.args.disk.now) (g.D.Disk.told c.mkfs.new.disk) (IsOldOrBare c.in-Some.request.subvolume_count) (IsOldOrMade c.args.subs.now)
+    (old_or_made c.args.subs.now c.in-Some.request.subvolume_count c.in-Some.ensures.some.subvolumes_are) c.mkfs.ensures.crash

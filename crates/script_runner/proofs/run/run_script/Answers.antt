@@ -27,7 +27,7 @@ returns-in-Err-clause-answer g c =
     let next = c.mount.new.disk in
     let before = outside (known (g.D.Disk.seen disk) (g.D.Disk.lost disk)) (g.D.Disk.told disk) (g.K.Sink.taken c.args.to.now) (g.D.Disk.faults disk) (g.K.Sink.faults c.args.to.now) in
     let after = outside (known (g.D.Disk.seen next) (g.D.Disk.lost next)) (g.D.Disk.told next) (g.K.Sink.taken c.answer.new.to) (g.D.Disk.faults next) (g.K.Sink.faults c.answer.new.to) in
-    let status = c.status_of.ensures in
+    let status = c.leaf_status.ensures in
     told_unmounted c.args.lines.now before after c.in-Err.fault c.answer.result (c.answer.ensures.same ∙ status) c.in-Err.ensures.fault (λ is. c.in-Err.ensures.disk_fault (ap (λ (e : MountFault). Err e) is))
     (record { seen = known_same _ _ _ _ c.in-Err.ensures.seen c.in-Err.ensures.lost; told = c.in-Err.ensures.told })
     (subst (λ (s : Status). TakesFront (g.K.Sink.taken c.args.to.now) (answer_line s) (g.K.Sink.taken c.answer.new.to)) status c.answer.ensures.front)
