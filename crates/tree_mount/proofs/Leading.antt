@@ -28,7 +28,7 @@ use Rattle.tree_mount.specs.Faults.{HasSuper, IsFirst, IsToldFault}
 use Rattle.tree_mount.specs.Mounted.{LeadsToTrees}
 use Rattle.tree_mount.specs.Roots.{AreRootsRead, IsRootsFault}
 use Rattle.tree_mount.specs.Trees.{AreLoaded, AreWalked, HasWalksFault, IsWalksFault, found_tree, items_of, reach_of, walks_of, wants_reach}
-use Rattle.tree_mount.proofs.Loading.{IsKept, kept_by, loaded_more, reach_alone}
+use Rattle.tree_mount.proofs.Loading.{IsKept, kept_by, reach_alone}
 use Rattle.tree_mount.proofs.Order.{after_root, after_roots, after_super, first_fault, standing_by}
 use Rattle.tree_mount.proofs.Walking.{by_wants, walked_more}
 
@@ -112,9 +112,6 @@ module _ (image : Image) (super : SuperValue) (has : HasSuper image super) (no_l
           (by_roots ∙ ap (λ (r : Result FoundTrees ImageFault). r >>= checked image super) (ap (λ (n : ℕ). walks_of image n wants (wants_reach mid (root_want super ∷ []))) (sym mid_slots) ∙ h (wants_reach mid (root_want super ∷ [])) root_taken))
 
       module _ (new : Table) (later : AreLoaded mid new wants) (more : AreWalked image mid new wants) where
-        all_loaded : AreLoaded (empty_table super.blocks) new (root_want super ∷ wants)
-        all_loaded = loaded_more (empty_table super.blocks) mid new (root_want super ∷ []) wants loaded later
-
         all_walked : AreWalked image (empty_table super.blocks) new (root_want super ∷ wants)
         all_walked = walked_more image (empty_table super.blocks) mid new (root_want super ∷ []) wants loaded later walked more
 

@@ -23,9 +23,6 @@ each_joined P xs ys one two x c = elim (Contains-append_cases xs ys x c) [ inl h
 pub each_alone : {X : Type 0} (P : X → Type 0) (x : X) → P x → (y : X) → Contains (x ∷ []) y → P y
 each_alone P x p y c = elim (in_cons x y [] c) [ inl here ↦ subst P here p | inr none ↦ absurd (in_nothing y none) ]
 
-pub each_none : {X : Type 0} (P : X → Type 0) → (y : X) → Contains [] y → P y
-each_none P y c = absurd (in_nothing y c)
-
 -- the element at a place of a list
 pub placed : {X : Type 0} (xs : List X) (place : ℕ) (d : X) → place < length xs → slice_get xs place ≡ Some (slice_index_or xs place d)
 placed xs place d inside = slice_get-get_or xs place d inside

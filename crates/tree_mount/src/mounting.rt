@@ -39,7 +39,8 @@ fn load_volume<D: Disk>(
     requires no_log { superblock.now.log_root.0 ≡ 0 }
     ensures loaded { IfOk result (λ wants. AreLoaded table.old table.new (root_want (super_view superblock.now) ∷ wants.items)) }
     ensures ids { IfOk result (λ wants. AreSubWants (super_view superblock.now) wants.items) }
-    ensures found { IfOk result (λ wants. IfTold (known (D.seen disk.old) (D.lost disk.old)) (λ image. LeadsToTrees image (super_view superblock.now) table.new wants.items)) }
+    ensures found { IfOk result (λ wants. IfTold (known (D.seen disk.old) (D.lost disk.old))
+        (λ image. LeadsToTrees image (super_view superblock.now) table.new wants.items)) }
     ensures fault { IfErr result (IsToldFault (known (D.seen disk.old) (D.lost disk.old))) }
     ensures disk_fault { (result ≡ Err MountFault.Disk) → HasRisen (D.faults disk.old) (D.faults disk.new) }
     ensures size { D.count disk.new ≡ D.count disk.old }
@@ -67,7 +68,8 @@ fn check_volume<D: Disk>(
     requires on_disk { superblock.now.blocks ≤ D.count disk.old }
     requires found { IfTold (known (D.seen disk.old) (D.lost disk.old)) (λ image. LeadsToTrees image (super_view superblock.now) table.old wants.now) }
     ensures whole { OnOk result (AreWhole table.old table.new wants.now) }
-    ensures found { OnOk result (IfTold (known (D.seen disk.old) (D.lost disk.old)) (λ image. LeadsToVolume image (super_view superblock.now) table.new wants.now)) }
+    ensures found { OnOk result (IfTold (known (D.seen disk.old) (D.lost disk.old))
+        (λ image. LeadsToVolume image (super_view superblock.now) table.new wants.now)) }
     ensures fault { IfErr result (IsToldFault (known (D.seen disk.old) (D.lost disk.old))) }
     ensures disk_fault { (result ≡ Err MountFault.Disk) → HasRisen (D.faults disk.old) (D.faults disk.new) }
     ensures size { D.count disk.new ≡ D.count disk.old }

@@ -62,7 +62,8 @@ fn is_root_key(key: &Key, id: u64) -> bool
 /// How the tree is read whose root item stands at this place of the root tree; `Kind` for the item of another key or one too
 /// many, and then `Size` ("ROOT_ITEM" of the Btrfs on-disk format).
 fn root_at(place: usize, superblock: &Super, key: &Key, bytes: &[u8]) -> Result<Want, ItemFault>
-    ensures { (found : List Wanted) → length found ≡ place → as_found found key.now result ≡ with_item (super_view superblock.now) found (key.now, bytes.now) }
+    ensures { (found : List Wanted) → length found ≡ place
+        → as_found found key.now result ≡ with_item (super_view superblock.now) found (key.now, bytes.now) }
 {
     if place >= MOST_SUBS as usize {
         return Err(ItemFault::Kind);
@@ -123,7 +124,8 @@ fn add_below(
 ) -> Result<(), MountFault>
     requires { (is_root : Bool) × IsSubtree level table.now is_root at.0 }
     ensures ok { OnOk result (with_items (super_view superblock.now) wants.old.items (items_below level table.now at.0) ≡ Ok wants.new.items) }
-    ensures fault { IfErr result (IsOtherBelow (with_items (super_view superblock.now) wants.old.items (items_below level table.now at.0)) table.now level at.0) }
+    ensures fault { IfErr result
+        (IsOtherBelow (with_items (super_view superblock.now) wants.old.items (items_below level table.now at.0)) table.now level at.0) }
 {
     let block = table.block(at);
     if level == 0 {

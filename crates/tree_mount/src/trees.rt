@@ -34,7 +34,8 @@ pub(crate) fn load_tree<D: Disk>(
     requires on_disk { length table.old.slots ≤ D.count disk.old }
     ensures loaded { OnOk result (AreLoaded table.old table.new (want.now ∷ [])) }
     ensures walked { OnOk result (IfTold (known (D.seen disk.old) (D.lost disk.old)) (λ image. AreWalked image table.old table.new (want.now ∷ []))) }
-    ensures fault { IfErr result (λ fault. IfTold (known (D.seen disk.old) (D.lost disk.old)) (λ image. HasWalksFault image table.old (want.now ∷ []) fault)) }
+    ensures fault { IfErr result (λ fault. IfTold (known (D.seen disk.old) (D.lost disk.old))
+        (λ image. HasWalksFault image table.old (want.now ∷ []) fault)) }
     ensures disk_fault { (result ≡ Err MountFault.Disk) → HasRisen (D.faults disk.old) (D.faults disk.new) }
     ensures size { D.count disk.new ≡ D.count disk.old }
     ensures seen { D.seen disk.new ≡ D.seen disk.old }
