@@ -6,10 +6,11 @@ use blk_base::format::{BLOCK_SIZE, SUPER_BLOCK};
 use disk_model::{Disk, DiskFailed};
 use std::fs::File;
 use std::io;
+use std::io::{Seek, SeekFrom};
 use std::os::unix::fs::FileExt;
 
-/// The disk in a file: as many blocks as the file has whole pieces of 4096 bytes, at most 2^32 - 1. It tells nothing of
-/// its content.
+/// The disk in a file or a block device: as many blocks as it has whole pieces of 4096 bytes, at most 2^32 - 1. It tells
+/// nothing of its content, and holds an advisory lock until it is dropped.
 #[derive(Drop)]
 pub struct FileDisk {
     file: File,
@@ -18,9 +19,22 @@ pub struct FileDisk {
 }
 
 impl FileDisk {
-    /// The disk in an open file, which is read and written.
+    /// The disk in an open file, which is read and written. An error is also that another program holds a lock on it
+    /// (`WouldBlock`).
     pub fn new(file: File) -> io::Result<FileDisk> {
-        let pieces = file.metadata()?.len() / BLOCK_SIZE;
+        file.try_lock()?;
+        FileDisk::sized(file)
+    }
+
+    /// The disk in an open file, which is only read. An error is also that another program writes it (`WouldBlock`).
+    pub fn read_only(file: File) -> io::Result<FileDisk> {
+        file.try_lock_shared()?;
+        FileDisk::sized(file)
+    }
+
+    // The end of a block device is found by a seek, as that of a file is; `metadata` tells that of a file alone.
+    fn sized(mut file: File) -> io::Result<FileDisk> {
+        let pieces = file.seek(SeekFrom::End(0))? / BLOCK_SIZE;
         Ok(FileDisk {
             file,
             blocks: u32::try_from(pieces).unwrap_or(u32::MAX),
@@ -87,8 +101,9 @@ impl Disk for FileDisk {
         self.flush()
     }
 
+    // The data alone: no call changes the file's size.
     fn flush(&mut self) -> Result<(), DiskFailed> {
-        let done = self.file.sync_all();
+        let done = self.file.sync_data();
         self.outcome(done)
     }
 }

@@ -10,6 +10,7 @@ mod standard;
 use blk_base::format::BLOCK_SIZE;
 use file_disk::FileDisk;
 use foreign_read::{ForeignStatus, drive_foreign};
+use mount_volume::MountFault as LeafFault;
 use script_runner::{Status, blocks_asked, drive};
 use standard::{ReaderSource, WriterSink};
 use std::alloc::AllocError;
@@ -17,8 +18,12 @@ use std::fs::{File, OpenOptions};
 use std::io::ErrorKind;
 use std::process::ExitCode;
 use std::{env, io};
+use tree_mount::MountFault;
 
 const VERSION: &str = "btlog 0.1.0";
+
+const USAGE: &str =
+    "usage: btlog IMAGE mkfs FSID BLOCKS SUBS | run | list | foreign; btlog --help has more";
 
 const HELP: &str = "\
 usage: btlog IMAGE COMMAND
@@ -27,7 +32,7 @@ usage: btlog IMAGE COMMAND
 IMAGE is a file with the image of a volume. Commands, and what they print:
   mkfs FSID BLOCKS SUBS   makes an empty volume       made BLOCKS SUBS
     FSID is a uuid, as 00000000-0000-0000-0000-000000000001
-    BLOCKS is 4096 to 65536, in blocks of 4096 bytes; SUBS is 1
+    BLOCKS is 4096 to 65536, in blocks of 4096 bytes; SUBS is 1 to 16
     an image that isn't there is made
   run                     runs a script on a volume   its answers, and done N
     the script is read from standard input
@@ -35,19 +40,21 @@ IMAGE is a file with the image of a volume. Commands, and what they print:
   foreign                 shows what a volume has     its listing
     the volume was made by the kernel or its tools, on one device with single or
     DUP chunks; the image is only read
-For run and list the volume has to stand in one leaf.
+For run the volume has to stand in one leaf.
 
 Other answers, and the exit status of each:
   0  the command was done
   1  usage    the words are no command
   2  script   the script has a fault; its line and kind stand behind the word
-  3  volume   the image has no volume in one leaf; what is wrong stands behind the word
+  3  volume   the image has no volume that can be mounted; what is wrong stands behind the word
      foreign  the image has no volume of the kernel's that can be listed; the same
-  4  disk     the image can't be opened or made, or failed while a volume was made or mounted
+  4  disk     the image can't be opened or made, another program holds a lock on it, or it
+              failed while a volume was made or mounted
   5  read     standard input failed, or has more than 16777216 bytes
   6           standard output failed
   7  memory   no memory
-  8  range    FSID, BLOCKS or SUBS is out of its form or range, or the image is too small";
+  8  range    FSID, BLOCKS or SUBS is out of its form or range, or the image is too small
+A sentence on what went wrong stands on standard error.";
 
 fn main(rt: HostRuntime) -> ExitCode {
     ExitCode::from(run(&rt))
@@ -57,7 +64,7 @@ fn main(rt: HostRuntime) -> ExitCode {
 fn run(rt: &HostRuntime) -> u8 {
     match words(rt) {
         Ok(words) => match words.as_slice() {
-            [] => answer(rt, "usage", Status::Usage),
+            [] => usage(rt),
             [word] if word.as_str() == "--help" => answer(rt, HELP, Status::Done),
             [word] if word.as_str() == "--version" => answer(rt, VERSION, Status::Done),
             [image, command @ ..] if is_foreign(command) => {
@@ -66,7 +73,7 @@ fn run(rt: &HostRuntime) -> u8 {
             [image, command @ ..] => on_image(rt, image.as_str(), command),
         },
         Err(e) if e.kind() == ErrorKind::OutOfMemory => answer(rt, "memory", Status::Memory),
-        Err(_) => answer(rt, "usage", Status::Usage),
+        Err(_) => usage(rt),
     }
 }
 
@@ -87,16 +94,70 @@ fn answer(rt: &HostRuntime, text: &str, status: Status) -> u8 {
     }
 }
 
+/// Answers words that are no command.
+fn usage(rt: &HostRuntime) -> u8 {
+    let _ = rt.eprintln(USAGE);
+    answer(rt, "usage", Status::Usage)
+}
+
 /// Runs a command on the image in a file.
 fn on_image(rt: &HostRuntime, path: &str, command: &[String]) -> u8 {
     match open_disk(rt, path, command) {
         Ok(mut disk) => {
             let mut from = ReaderSource::new(rt.stdin());
             let mut to = WriterSink::new(rt.stdout());
-            drive(rt.alloc(), command, &mut from, &mut to, &mut disk).code()
+            let status = drive(rt.alloc(), command, &mut from, &mut to, &mut disk);
+            explain(rt, path, status);
+            status.code()
         }
-        Err(_) => answer(rt, "disk", Status::DiskFault),
+        Err(e) => not_opened(rt, path, &e),
     }
+}
+
+/// Says on standard error why a command found no volume, or what its words may be.
+fn explain(rt: &HostRuntime, path: &str, status: Status) {
+    let _ = match status {
+        Status::Usage => rt.eprintln(USAGE),
+        Status::NoVolume(fault) => eprintln!(rt; "btlog: {path}: {}", meaning(fault)),
+        Status::NoLeaf(fault) => eprintln!(rt; "btlog: {path}: {}", leaf_meaning(fault)),
+        _ => Ok(()),
+    };
+}
+
+/// What it means that a volume can't be mounted for this fault.
+fn meaning(fault: MountFault) -> &'static str {
+    match fault {
+        MountFault::Super(_) =>
+            "its superblock isn't that of a volume that mkfs made, or is damaged",
+        MountFault::Log => "it has a log, which can't be replayed yet",
+        MountFault::Load(_) => "a tree has a block that is damaged or isn't where one may be",
+        MountFault::Item(..) => "an item of a tree is damaged",
+        MountFault::Incoherent(..) => "the items of an inode don't agree with one another",
+        MountFault::NoRoom { .. } => "it has too few free blocks to be mounted",
+        MountFault::Disk => "it couldn't be read",
+        MountFault::OutOfMemory => "there was no memory",
+    }
+}
+
+/// What it means that no script can be run on a volume for this fault.
+fn leaf_meaning(fault: LeafFault) -> &'static str {
+    match fault {
+        LeafFault::Super(_) =>
+            "its superblock isn't that of a volume that mkfs made, or is damaged",
+        LeafFault::OneLeaf => "scripts run only on a volume that stands in one leaf and has no log",
+        LeafFault::Load(_) => "a tree has a block that is damaged or isn't where one may be",
+        LeafFault::Disk => "it couldn't be read",
+        LeafFault::OutOfMemory => "there was no memory",
+    }
+}
+
+/// Answers for an image that can't be opened, with the system's words on standard error.
+fn not_opened(rt: &HostRuntime, path: &str, error: &io::Error) -> u8 {
+    let _ = match error.kind() {
+        ErrorKind::WouldBlock => eprintln!(rt; "btlog: {path}: another program holds a lock on it"),
+        _ => eprintln!(rt; "btlog: {path}: {error}"),
+    };
+    answer(rt, "disk", Status::DiskFault)
 }
 
 /// Whether the first word is `foreign`.
@@ -115,20 +176,20 @@ fn on_foreign(rt: &HostRuntime, path: &str, command: &[String]) -> u8 {
             let status = drive_foreign(rt.alloc(), command, &mut to, &mut disk);
             end_foreign(rt, status)
         }
-        Err(_) => answer(rt, "disk", Status::DiskFault),
+        Err(e) => not_opened(rt, path, &e),
     }
 }
 
 /// Opens the image to be read alone.
 fn open_read_only(rt: &HostRuntime, path: &str) -> io::Result<FileDisk> {
     let file = OpenOptions::new().read(true).open(rt, path)?;
-    FileDisk::new(file)
+    FileDisk::read_only(file)
 }
 
 /// Prints the word of an answer that has written nothing, and gives the exit status.
 fn end_foreign(rt: &HostRuntime, status: ForeignStatus) -> u8 {
     match status {
-        ForeignStatus::Usage => answer(rt, "usage", Status::Usage),
+        ForeignStatus::Usage => usage(rt),
         ForeignStatus::DiskFault => answer(rt, "disk", Status::DiskFault),
         ForeignStatus::Memory => answer(rt, "memory", Status::Memory),
         ForeignStatus::Done | ForeignStatus::NoVolume(_) | ForeignStatus::WriteFault => {
@@ -145,6 +206,7 @@ fn open_disk(rt: &HostRuntime, path: &str, command: &[String]) -> io::Result<Fil
             Some(blocks) => {
                 let file = File::create_new(rt, path)?;
                 file.set_len(u64::from(blocks) * BLOCK_SIZE)?;
+                file.sync_all()?;
                 FileDisk::new(file)
             }
             None => Err(e),
