@@ -94,6 +94,8 @@ fn answer(rt: &HostRuntime, text: &str, status: Status) -> u8 {
     }
 }
 
+// A sentence on standard error that can't be written changes nothing: the answer stands on standard output.
+
 /// Answers words that are no command.
 fn usage(rt: &HostRuntime) -> u8 {
     let _ = rt.eprintln(USAGE);
