@@ -1,5 +1,6 @@
 //! Blocks of runs.
-ghost use Rattle.std.specs.Prelude.{◌≡◌, ◌↔◌, ◌≤◌, ◌<◌, ◌+◌, ◌*◌, ◌/◌, ◌^◌, ℕ, List, Some, IsTrue, length, slice_index};
+ghost use Rattle.std.specs.Prelude.{◌≡◌, ◌↔◌, ◌≤◌, ◌<◌, ◌+◌, ◌*◌, ◌/◌, ◌^◌, ℕ, List, Some, IsTrue, length, nat_eq, slice_index};
+ghost use Rattle.std.specs.Cmp.Lexicographic.{pointwise};
 ghost use Rattle.flat_model.specs.Coherent.{AreBytes, KeepsBlockLimits};
 ghost use Rattle.flat_model.specs.Contents.{most_file_bytes};
 ghost use Rattle.table_volume.specs.Gives.{data_in};
@@ -19,16 +20,23 @@ fn block_at(table: &BlockTable, at: Addr) -> Option<&Block>
     Some(table.block(at))
 }
 
+const ZEROS: Block = [0; 4096];
+
+/// Whether these are the same bytes.
+fn are_same(some: &[u8], others: &[u8]) -> bool
+    ensures { result ≡ pointwise nat_eq some.now others.now }
+{
+    some == others
+}
+
 /// Whether all bytes of a block from a place on are zeros.
 fn are_zeros(block: &Block, from: usize) -> bool
     ensures { IsTrue result ↔ ((at : ℕ) → from ≤ at → at < 4096 → slice_index block.now at ≡ 0) }
 {
-    for at in from..4096 {
-        if block[at] != 0 {
-            return false;
-        }
+    if from >= 4096 {
+        return true;
     }
-    true
+    are_same(&block[from..], &ZEROS[from..])
 }
 
 /// Whether a block of a file with this number begins below the file's size, and its bytes past the size are zeros.
