@@ -22,10 +22,12 @@ invariant_of-self c =
     let run = c.self.invariant.0 in
     let err = c.in_err-answer.ensures.err in
     let len : c.self.inside.states.len ≡ length c.operate.new.states = omega (arith, ap length err.1, ap length c.deref_mut.ensures.value, c.self.inside.states.ok.0) in
-    let whole = back c.operate.new.states c.self.inside.states.items c.self.inside.states.len len in
-    (run, subst (λ (l : List SubState). GiveVolume c.operate.new.table l run) (sym whole)
-    (subst (λ (t : Table). GiveVolume t c.operate.new.states run) (sym err.0)
-    (subst (λ (l : List SubState). GiveVolume c.self.inside.table l run) (sym (err.1 ∙ c.deref_mut.ensures.value)) c.self.invariant.1)))
+    let whole = back c.operate.new.states c.self.inside.states.items c.self.inside.states.len len in (
+      run,
+      subst (λ (l : List SubState). GiveVolume c.operate.new.table l run) (sym whole)
+          (subst (λ (t : Table). GiveVolume t c.operate.new.states run) (sym err.0)
+          (subst (λ (l : List SubState). GiveVolume c.self.inside.table l run) (sym (err.1 ∙ c.deref_mut.ensures.value)) c.self.invariant.1)),
+    )
 
 pub invariant_of-self-2 : goal.invariant_of-self-2
 invariant_of-self-2 c =
