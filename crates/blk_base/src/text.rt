@@ -1,4 +1,4 @@
-ghost use Rattle.std.specs.Prelude.{◌≡◌, ◌↔◌, ◌<◌, ℕ, IsTrue, IfOk, List, [], All, length, replicate, slice_index, bytes_eq};
+ghost use Rattle.std.specs.Prelude.{◌≡◌, ◌↔◌, ◌<◌, ◌≤◌, ◌+◌, ℕ, IsTrue, IfOk, List, [], All, length, replicate, slice_index, bytes_eq, take, drop};
 ghost use Rattle.std.specs.Cmp.{partial_equiv_from_equiv};
 ghost use Rattle.std.specs.Cmp.Lexicographic.{nat_list_eq_equiv};
 
@@ -80,6 +80,17 @@ impl Text {
         }
     }
 
+    /// Copies its bytes from a place on over all of a slice.
+    pub fn copy_to(&self, place: usize, into: &mut [u8])
+        requires { place + length into.old ≤ length self.now }
+        ensures { into.new ≡ take (length into.old) (drop place self.now) }
+    {
+        match &self.kept {
+            Kept::Bytes(bytes) => into.copy_from_slice(&bytes[place..place + into.len()]),
+            Kept::Run { byte, .. } => into.fill(*byte),
+        }
+    }
+
     /// The same text once more, kept in the same way. Fails only for want of memory.
     pub fn copy(&self, alloc: Global) -> Result<Text, OutOfMemory>
         ensures { IfOk result (λ text. text ≡ self.now) }
@@ -126,6 +137,9 @@ mod tests {
         assert_eq!(rt; run.len(), 3);
         assert_eq!(rt; run.byte(2), b'z');
         assert!(rt; text == run);
+        let mut into = [0; 3];
+        text.copy_to(1, &mut into[1..]);
+        assert_eq!(rt; into, [0, b'z', b'z']);
         assert!(rt; text.copy(rt.alloc())? == run.copy(rt.alloc())?);
         assert!(rt; text != Text::new(rt.alloc(), b"zz")?);
         assert!(rt; Text::repeat(0, 1).is_empty());

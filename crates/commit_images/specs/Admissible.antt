@@ -68,11 +68,14 @@ pub record MayWrite (scene : Scene) (at : ℕ) (bytes : List ℕ) (ok : Bool) (l
   pub unreached : (commit : Commit) → Contains scene.found commit → Reaches commit at → ⊥
   pub reads : ok ≡ true → left ≡ bytes
 
--- the superblock of the commit that runs may be written: it wasn't tried, and all that it reaches is durable (own)
+-- the superblock of the commit that runs may be written: it wasn't tried, all that it reaches is durable, and a crash may find one superblock alone, so that one
+-- whose write failed was written again (own)
 pub record MayWriteSuper (scene : Scene) (ok : Bool) (left : List ℕ) : Type 0 where
   pub commit : Commit
+  pub first : Commit
   pub runs : scene.batch ≡ Some commit
   pub first_time : scene.progress ≡ NotTried
+  pub alone : scene.found ≡ first ∷ []
   pub durable : (block : ℕ × List ℕ) → Contains commit.blocks block → IsDurable scene block
   pub reads : ok ≡ true → left ≡ commit.superblock
 

@@ -1,3 +1,4 @@
 pub mod Joining
 pub mod Again
 pub mod Split
+pub mod Finished

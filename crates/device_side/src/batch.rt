@@ -4,6 +4,7 @@ ghost use Rattle.std.specs.List.{flat_map};
 ghost use Rattle.disk_model.specs.Disk.{EveryMoment, GoesOnUntil, HasCause, IfBoth, IfTold, IsCutOff, TellsMore};
 ghost use Rattle.batch_write.specs.Batch.{HasBatch, HasBlock, HasWritten, IsOldOrNew, LeavesOnly, Regained, SameOutside, numbers_of, settle_calls, super_call, write_call};
 ghost use Rattle.device_side.specs.Device.{IsNextFor, IsPart, after_done, after_tried, again_calls, rewritten, to_write, unwritten};
+ghost use Rattle.device_side.specs.Finish.{IsFinishOf};
 ghost use Rattle.device_side.specs.Written.{AreWritten, ChangesOnly, MayBeWritten};
 
 use crate::blocks::write_blocks;
@@ -203,6 +204,9 @@ impl DeviceSide {
             (λ old new. IsCutOff old new (again_calls self.old.failed ++ settle_calls (to_write self.old batch.now))) }
         ensures cut_last { IsErrOf result (DeviceFault.Disk true) → IfBoth (D.told disk.old) (D.told disk.new)
             (λ old new. GoesOnUntil old new (again_calls self.old.failed ++ settle_calls (to_write self.old batch.now)) (super_call batch.now.superblock.value)) }
+
+        // Both together.
+        ensures goes_on { IfBoth (D.told disk.old) (D.told disk.new) (IsFinishOf self.old self.new batch.now result) }
 
         // What a read gives.
         ensures seen { OnOk result (IfBoth (D.seen disk.old) (D.seen disk.new) (HasWritten (to_write self.old batch.now))) }

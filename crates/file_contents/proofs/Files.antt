@@ -12,10 +12,11 @@ use Rattle.flat_model.specs.Coherent.{KeepsBlockLimits, KeepsFileLimits}
 use Rattle.flat_model.specs.Contents.{block_bytes, block_written, cut_block, truncated, with_cut_block, written}
 use Rattle.flat_model.specs.Records.{Blocks, FileRecord}
 use Rattle.flat_model.proofs.Maps.{get_insert_other, get_insert_same, some_none}
-use Rattle.file_extents.specs.Extents.{Contents, cleared, held_between, with_block}
-use Rattle.file_contents.specs.Written.{end_block, first_block, with_blocks}
+use Rattle.file_extents.specs.Extents.{Contents, cleared, held_between, with_block, with_blocks}
+use Rattle.file_extents.proofs.Runs.{inside, outside, with_in, with_out}
+use Rattle.file_contents.specs.Written.{end_block, first_block}
 use Rattle.file_contents.proofs.Counting.{held_all, held_most, held_none, held_same, held_split, len_held}
-use Rattle.file_contents.proofs.Puts.{outside, inside, with_in, with_none, with_out}
+use Rattle.file_contents.proofs.Puts.{with_none}
 
 -- ---- a text that is written
 

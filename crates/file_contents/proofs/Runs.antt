@@ -1,7 +1,7 @@
 -- Runs of a file's blocks: the last one in front of a block, and those that a block more makes.
 use Rattle.std.proofs.Common.{◌≡◌, ◌≢◌, ◌↔◌, ◌≤◌, ◌<◌, ◌+◌, ◌-◌, ◌*◌, ℕ, List, Option, Some, None, max, min, refl, sym, ap, subst, ◌∙◌, arith, inl, inr}
 use Rattle.std.specs.Option.{is_some}
-use Rattle.std.proofs.lemmas.Bool.{cases_eq}
+use Rattle.std.proofs.lemmas.Bool.{cases_eq, cases_lt}
 use Rattle.blk_base.specs.Leaf.{Item}
 use Rattle.volume_image.specs.Subvolume.{Data}
 use Rattle.flat_model.proofs.Maps.{some_none}
@@ -85,45 +85,39 @@ module _ (items : List Item) (blocks : Data) (ino : ℕ) (contents : Contents) (
     ends = λ other place more r ends. absurd (none other place more r (omega (arith, ends)));
   }
 
--- ---- a block more
+-- ---- blocks more
 
-module _ (was now : ℕ → ℕ → ℕ → Type 0) (from number begin at count place begin' at' count' : ℕ) (sole : AreSole now) (some_was : HaveSome was) (some_now : HaveSome now)
-    (apart : (one x n two y m : ℕ) → now one x n → now two y m → one < two → one + n ≤ two) (none : (x n : ℕ) → was number x n → ⊥)
-    (here : now begin' at' count') (others : (b x n : ℕ) → b ≢ begin' → now b x n ↔ was b x n) (joins : Joins begin at count number place begin' at' count')
-    (front : IsInFront was number begin at count) where
-  -- the run that the block is in ends with it
-  record EndsHere : Type 0 where
-    low : begin' ≤ number
-    ends : begin' + count' ≡ number + 1
+module _ (was now : ℕ → ℕ → ℕ → Type 0) (from number begin at count place begin' at' one count' end : ℕ) (sole : AreSole now) (some_was : HaveSome was) (some_now : HaveSome now)
+    (apart : (b x n b' y m : ℕ) → now b x n → now b' y m → b < b' → b + n ≤ b') (none : (x n : ℕ) → was number x n → ⊥)
+    (here : now begin' at' count') (others : (b x n : ℕ) → b ≢ begin' → now b x n ↔ was b x n) (joins : Joins begin at count number place begin' at' one)
+    (ends_is : begin' + count' ≡ end) (more : number < end) (front : IsInFront was number begin at count) where
+  -- the run that the blocks are in begins with the first of them or in front of it
+  begins_low : Joins begin at count number place begin' at' one → begin' ≤ number
+  begins_low (Longer some few follows next same same_at longer) = omega (arith, same, follows)
+  begins_low (Alone none_joins own own_at alone) = omega (arith, own)
 
-  ends_here : Joins begin at count number place begin' at' count' → EndsHere
-  ends_here (Longer some few follows next same same_at more) = record { low = omega (arith, same, follows); ends = omega (arith, same, follows, more) }
-  ends_here (Alone none_joins own own_at one) = record { low = omega (arith, own); ends = omega (arith, own, one) }
-
-  pub front_more : IsInFront now (number + 1) begin' at' count'
+  pub front_more : IsInFront now end begin' at' count'
   front_more = record {
     stands = inr here;
     ends = λ other x n r ends. elim (cases_eq other begin') [
       | inl same ↦
           let is = sole begin' x n at' count' (subst (λ (b : ℕ). now b x n) same r) here in
           (same, is.0, is.1)
-      | inr differs ↦ absurd (elim (Rattle.std.proofs.lemmas.Bool.cases_lt other begin') [
-        | inl less ↦ let h = apart other x n begin' at' count' r here less in let e = ends_here joins in omega (arith, h, ends, e.low)
-        | inr more ↦
-            let h = apart begin' at' count' other x n here r (omega (arith, more, differs)) in
-            let e = ends_here joins in
+      | inr differs ↦ absurd (elim (cases_lt other begin') [
+        | inl less ↦ let h = apart other x n begin' at' count' r here less in omega (arith, h, ends, begins_low joins, more)
+        | inr past ↦
+            let h = apart begin' at' count' other x n here r (omega (arith, past, differs)) in
             let s = some_now other x n r in
-            omega (arith, h, ends, e.ends, s)
+            omega (arith, h, ends, ends_is, s)
       ])
     ];
   }
 
-  -- a run that ends at the block or in front of it is an old one
+  -- a run that ends in front of them is an old one
   old_run : (b x n : ℕ) → now b x n → b + n ≤ number → was b x n
   old_run b x n r ends = (others b x n (λ same.
       let is = sole begin' x n at' count' (subst (λ (m : ℕ). now m x n) same r) here in
-      let e = ends_here joins in
-      absurd (omega (arith, is.1, same, e.ends, ends)))).0 r
+      absurd (omega (arith, is.1, same, ends_is, ends, more)))).0 r
 
   before_it : (b x n : ℕ) → b ≤ number → was b x n → b < number
   before_it b x n high r = elim (cases_eq b number) [
@@ -131,8 +125,8 @@ module _ (was now : ℕ → ℕ → ℕ → Type 0) (from number begin at count 
     | inr other ↦ omega (arith, high, other)
   ]
 
-  joined_by : AreJoined was from number → Joins begin at count number place begin' at' count' → (b x n b2 x2 n2 : ℕ) → now b x n → now b2 x2 n2 → b + n ≡ b2 → from ≤ b2 → b2 ≤ number → x + 4096 * n ≡ x2 → 4096 ≤ n
-  joined_by before (Longer some few follows next same same_at more) b x n b2 x2 n2 r r2 ends low high on =
+  joined_by : AreJoined was from number → Joins begin at count number place begin' at' one → (b x n b2 x2 n2 : ℕ) → now b x n → now b2 x2 n2 → b + n ≡ b2 → from ≤ b2 → b2 ≤ number → x + 4096 * n ≡ x2 → 4096 ≤ n
+  joined_by before (Longer some few follows next same same_at longer) b x n b2 x2 n2 r r2 ends low high on =
       let first = old_run b x n r (omega (arith, ends, high)) in
       elim (cases_eq b2 begin') [
         | inl is ↦ elim front.stands [
@@ -145,7 +139,7 @@ module _ (was now : ℕ → ℕ → ℕ → Type 0) (from number begin at count 
             let second = (others b2 x2 n2 differs).0 r2 in
             before b x n b2 x2 n2 first second ends low (before_it b2 x2 n2 high second) on
       ]
-  joined_by before (Alone none_joins own own_at one) b x n b2 x2 n2 r r2 ends low high on =
+  joined_by before (Alone none_joins own own_at alone) b x n b2 x2 n2 r r2 ends low high on =
       let first = old_run b x n r (omega (arith, ends, high)) in
       elim (cases_eq b2 begin') [
         | inl is ↦
@@ -159,5 +153,10 @@ module _ (was now : ℕ → ℕ → ℕ → Type 0) (from number begin at count 
             before b x n b2 x2 n2 first second ends low (omega (arith, high, differs, own)) on
       ]
 
-  pub joined_more : AreJoined was from number → AreJoined now from (number + 1)
-  joined_more before b x n b2 x2 n2 r r2 ends low high on = joined_by before joins b x n b2 x2 n2 r r2 ends low (omega (arith, high)) on
+  pub joined_more : AreJoined was from number → AreJoined now from end
+  joined_more before b x n b2 x2 n2 r r2 ends low high on = elim (cases_lt number b2) [
+    | inl within ↦
+        let h = apart begin' at' count' b2 x2 n2 here r2 (omega (arith, begins_low joins, within)) in
+        absurd (omega (arith, h, ends_is, high))
+    | inr first ↦ joined_by before joins b x n b2 x2 n2 r r2 ends low first on
+  ]

@@ -1,5 +1,5 @@
 -- What a write and a cut of a file ask for, and the inode item behind them.
-use Rattle.std.proofs.Common.{◌≡◌, ◌≤◌, ◌<◌, ◌+◌, ◌-◌, ◌*◌, ℕ, List, length, sym, ap, subst, ◌∙◌, arith}
+use Rattle.std.proofs.Common.{◌≡◌, ◌≤◌, ◌<◌, ◌+◌, ◌-◌, ◌*◌, ℕ, List, Option, length, sym, ap, subst, ◌∙◌, arith, inr}
 use Rattle.std.specs.FinMap.{get, len}
 use Rattle.blk_base.specs.Items.{InodeValue, IsInode, file_mode, inode_bytes}
 use Rattle.block_table.specs.declared.tree.SubState.{SubState}
@@ -7,18 +7,19 @@ use Rattle.block_table.specs.declared.tree.Tree.{Tree}
 use Rattle.block_table.specs.Table.{Table}
 use Rattle.flat_model.specs.Contents.{block_written}
 use Rattle.flat_model.specs.Operations.{with_record}
-use Rattle.flat_model.specs.Records.{FileInode, FileRecord}
+use Rattle.flat_model.specs.Records.{Blocks, FileInode, FileRecord}
 use Rattle.flat_model.specs.Volume.{RunSub}
 use Rattle.item_edit.specs.ItemEdit.{HasInode}
 use Rattle.tree_range.specs.Shape.{tree_items}
 use Rattle.table_volume.specs.Gives.{data_in}
 use Rattle.table_volume.specs.Operated.{HasRoom}
 use Rattle.volume_image.specs.Subvolume.{IsInodeOf}
-use Rattle.file_extents.specs.Extents.{Contents, HoldContents, MayClear, cleared, held_between}
+use Rattle.file_extents.specs.Extents.{Contents, HoldContents, HoldIn, MayClear, cleared, held_between, with_blocks}
+use Rattle.file_extents.proofs.Runs.{hold_same, with_out}
 use Rattle.file_contents.specs.Given.{GivesFile, resized}
-use Rattle.file_contents.specs.Written.{MayPut, end_block, first_block, with_blocks}
+use Rattle.file_contents.specs.Written.{MayPut, edge_of, end_block, first_block}
 use Rattle.file_contents.proofs.Given.{holds, inode_there, low}
-use Rattle.file_contents.proofs.Puts.{cleared_hole, hold_same, with_cleared}
+use Rattle.file_contents.proofs.Puts.{cleared_hole, with_cleared}
 
 module _ (table : Table) (state : SubState) (run : RunSub) (ino : ℕ) (file : FileRecord) (is : GivesFile table state run ino file) where
   pub may_clear : (from to most : ℕ) → HasRoom table most → 2 * held_between (get file.blocks) from (to - from) + 102 ≤ most → MayClear table state.tree ino (get file.blocks) from to
@@ -28,22 +29,22 @@ module _ (table : Table) (state : SubState) (run : RunSub) (ino : ℕ) (file : F
     room = record { spare = omega (arith, room.spare, few); free = omega (arith, room.free, few) };
   }
 
-  pub may_put : (offset : ℕ) (text head tail : List ℕ) (mid : Table) (tree : Tree) → HoldContents (tree_items mid tree) (data_in mid) ino (cleared (get file.blocks) (first_block offset) (end_block offset (length text)))
-      → head ≡ block_written file.blocks offset text (first_block offset) → tail ≡ block_written file.blocks offset text (end_block offset (length text) - 1)
-      → MayPut (tree_items mid tree) (data_in mid) ino (cleared (get file.blocks) (first_block offset) (end_block offset (length text))) file.blocks offset text head tail
+  pub may_put : (offset : ℕ) (text : List ℕ) (head tail : Option (List ℕ)) (mid : Table) (tree : Tree) → HoldContents (tree_items mid tree) (data_in mid) ino (cleared (get file.blocks) (first_block offset) (end_block offset (length text)))
+      → head ≡ edge_of file.blocks offset text (first_block offset) → tail ≡ edge_of file.blocks offset text (end_block offset (length text) - 1)
+      → MayPut mid tree ino (cleared (get file.blocks) (first_block offset) (end_block offset (length text))) file.blocks offset text (first_block offset) head tail
   may_put offset text head tail mid tree hold first last = record {
     holds = hold;
     holes = λ number low high. cleared_hole (get file.blocks) (first_block offset) (end_block offset (length text)) number low high;
     head_is = first;
-    tail_is = λ number ends. last ∙ ap (block_written file.blocks offset text) (omega (arith, ends));
+    tail_is = λ number ends. last ∙ ap (edge_of file.blocks offset text) (omega (arith, ends));
   }
 
   -- by the code's own word for the end
-  pub put_now : (offset : ℕ) (text head tail : List ℕ) (mid : Table) (tree : Tree) (end : ℕ) → end ≡ end_block offset (length text) → HoldContents (tree_items mid tree) (data_in mid) ino (cleared (get file.blocks) (first_block offset) end)
-      → head ≡ block_written file.blocks offset text (first_block offset) → tail ≡ block_written file.blocks offset text (end - 1)
-      → MayPut (tree_items mid tree) (data_in mid) ino (cleared (get file.blocks) (first_block offset) (end_block offset (length text))) file.blocks offset text head tail
+  pub put_now : (offset : ℕ) (text : List ℕ) (head tail : Option (List ℕ)) (mid : Table) (tree : Tree) (end : ℕ) → end ≡ end_block offset (length text) → HoldContents (tree_items mid tree) (data_in mid) ino (cleared (get file.blocks) (first_block offset) end)
+      → head ≡ edge_of file.blocks offset text (first_block offset) → tail ≡ edge_of file.blocks offset text (end - 1)
+      → MayPut mid tree ino (cleared (get file.blocks) (first_block offset) (end_block offset (length text))) file.blocks offset text (first_block offset) head tail
   put_now offset text head tail mid tree end same hold first last =
-      may_put offset text head tail mid tree (subst (λ (e : ℕ). HoldContents (tree_items mid tree) (data_in mid) ino (cleared (get file.blocks) (first_block offset) e)) same hold) first (last ∙ ap (λ (e : ℕ). block_written file.blocks offset text (e - 1)) same)
+      may_put offset text head tail mid tree (subst (λ (e : ℕ). HoldContents (tree_items mid tree) (data_in mid) ino (cleared (get file.blocks) (first_block offset) e)) same hold) first (last ∙ ap (λ (e : ℕ). edge_of file.blocks offset text (e - 1)) same)
 
   -- what the inode item says that is there
   abbrev pub value_there : InodeValue
@@ -90,3 +91,15 @@ pub all_put : (items_table : Table) (tree : Tree) (ino : ℕ) (contents : Conten
     → HoldContents (tree_items items_table tree) (data_in items_table) ino (with_blocks contents fresh from to)
 all_put table tree ino contents fresh from to hold =
     hold_same (tree_items table tree) (data_in table) ino (with_blocks (cleared contents from to) fresh from to) (with_blocks contents fresh from to) (with_cleared contents fresh from to) hold
+
+-- the blocks in front of a number are put, and those from it on may be
+pub may_more : (old now : Table) (before after : Tree) (ino : ℕ) (contents : Contents) (blocks : Blocks) (offset : ℕ) (text : List ℕ) (number : ℕ) (head tail : Option (List ℕ)) → first_block offset ≤ number
+    → MayPut old before ino contents blocks offset text (first_block offset) head tail
+    → HoldIn now after ino (with_blocks contents (block_written blocks offset text) (first_block offset) number)
+    → MayPut now after ino (with_blocks contents (block_written blocks offset text) (first_block offset) number) blocks offset text number head tail
+may_more old now before after ino contents blocks offset text number head tail low may holds = record {
+  holds = holds;
+  holes = λ n from to. with_out contents (block_written blocks offset text) (first_block offset) number n (inr from) ∙ may.holes n (omega (arith, low, from)) to;
+  head_is = may.head_is;
+  tail_is = may.tail_is;
+}

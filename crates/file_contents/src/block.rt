@@ -1,27 +1,36 @@
 //! One block of a file, with a text over it or cut.
-ghost use Rattle.std.specs.Prelude.{◌≡◌, ◌≤◌, ◌<◌, ◌+◌, ◌*◌, length};
+ghost use Rattle.std.specs.Prelude.{◌≡◌, ◌≤◌, ◌<◌, ◌+◌, ◌*◌, ℕ, length, replicate, slice_index};
+ghost use Rattle.std.specs.Option.{unwrap_or};
 ghost use Rattle.std.specs.FinMap.{get};
 ghost use Rattle.file_blocks.specs.Runs.{block_view};
-ghost use Rattle.flat_model.specs.Contents.{block_written, byte_written, cut_block, most_file_bytes};
+ghost use Rattle.flat_model.specs.Contents.{block_written, cut_block, most_file_bytes};
 ghost use Rattle.flat_model.specs.Records.{Blocks};
+ghost use Rattle.file_contents.specs.Written.{text_over};
 
 use blk_base::format::BLOCK_SIZE;
 use blk_base::{Block, Text};
 
-/// A byte of a block of a file once a text stands from an offset of the file on; a hole has zeros.
-fn byte_over(old: Option<&Block>, number: u64, offset: u64, text: &Text, place: usize) -> u8
-    requires number { number ≤ 4096 }
-    requires place { place < 4096 }
+/// Lays what a text has of a block over it: the block begins at an offset of the file, and the text at another.
+fn lay_over(bytes: &mut Block, begin: u64, offset: u64, text: &Text)
+    requires begin { begin ≤ most_file_bytes }
     requires few { offset + length text.now ≤ most_file_bytes }
-    ensures { (blocks : Blocks) → block_view old.entry ≡ get blocks number → result ≡ byte_written blocks offset text.now (number * 4096 + place) }
+    ensures { (place : ℕ) → place < 4096 → slice_index bytes.new place ≡ text_over offset text.now (begin + place) (slice_index bytes.old place) }
 {
-    let at = number * BLOCK_SIZE + place as u64;
-    if offset <= at && at - offset < text.len() as u64 {
-        return text.byte((at - offset) as usize);
+    let from = offset.max(begin);
+    let to = (offset + text.len() as u64).min(begin + BLOCK_SIZE);
+    if from < to {
+        let part = &mut bytes[(from - begin) as usize..(to - begin) as usize];
+        text.copy_to((from - offset) as usize, part);
     }
-    match old {
-        Some(block) => block[place],
-        None => 0,
+}
+
+/// The bytes of a block of a file; a hole has zeros.
+fn bytes_of(block: Option<&Block>) -> Block
+    ensures { result ≡ unwrap_or (block_view block.entry) (replicate 4096 0) }
+{
+    match block {
+        Some(block) => *block,
+        None => [0; 4096],
     }
 }
 
@@ -31,10 +40,8 @@ pub(crate) fn block_over(old: Option<&Block>, number: u64, offset: u64, text: &T
     requires few { offset + length text.now ≤ most_file_bytes }
     ensures { (blocks : Blocks) → block_view old.entry ≡ get blocks number → result ≡ block_written blocks offset text.now number }
 {
-    let mut bytes = [0; 4096];
-    for place in 0..4096 {
-        bytes[place] = byte_over(old, number, offset, text, place);
-    }
+    let mut bytes = bytes_of(old);
+    lay_over(&mut bytes, number * BLOCK_SIZE, offset, text);
     bytes
 }
 
@@ -44,8 +51,6 @@ pub(crate) fn cut_bytes(block: &Block, place: usize) -> Block
     ensures { result ≡ cut_block block.now place }
 {
     let mut bytes = *block;
-    for past in 0..4096 - place {
-        bytes[place + past] = 0;
-    }
+    bytes[place..].fill(0);
     bytes
 }

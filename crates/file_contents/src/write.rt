@@ -1,18 +1,19 @@
 //! Bytes written to a file.
-ghost use Rattle.std.specs.Prelude.{◌≡◌, ◌≤◌, ◌<◌, ◌+◌, ◌*◌, ℕ, List, length};
+ghost use Rattle.std.specs.Prelude.{◌≡◌, ◌≢◌, ◌↔◌, ◌≤◌, ◌<◌, ◌+◌, ◌-◌, ◌*◌, ℕ, Some, length};
 ghost use Rattle.std.specs.FinMap.{get};
+ghost use Rattle.file_blocks.specs.Runs.{block_view};
 ghost use Rattle.file_contents.specs.Given.{GivesFile};
 ghost use Rattle.file_contents.specs.Joined.{AreJoined};
-ghost use Rattle.file_contents.specs.Written.{MayPut, end_block, first_block, with_blocks};
-ghost use Rattle.file_extents.specs.Extents.{Contents, HasRun, HoldContents, IsContentEdit, IsHeld};
+ghost use Rattle.file_contents.specs.Written.{MayPut, covers, edge_of, end_block, first_block};
+ghost use Rattle.file_extents.specs.Extents.{Contents, HasRun, HoldIn, IsContentEdit, IsHeld, Joins, StandsBefore, with_blocks};
 ghost use Rattle.flat_model.specs.Contents.{block_written, most_file_bytes, written};
 ghost use Rattle.flat_model.specs.Operations.{with_record};
 ghost use Rattle.flat_model.specs.Records.{Blocks, FileInode, FileRecord};
-ghost use Rattle.flat_model.specs.Volume.{RunSub};
+ghost use Rattle.flat_model.specs.Volume.{RunSub, Subvolume};
 ghost use Rattle.table_volume.specs.Edited.{Makes};
-ghost use Rattle.table_volume.specs.Gives.{data_in};
+ghost use Rattle.table_volume.specs.Gives.{GivesSubvolume};
 ghost use Rattle.table_volume.specs.Operated.{HasRoom};
-ghost use Rattle.tree_range.specs.Shape.{tree_items};
+ghost use Rattle.tree_range.specs.Shape.{IsTree, tree_items};
 
 use crate::block::block_over;
 use crate::count::held_blocks;
@@ -22,7 +23,7 @@ use blk_base::format::BLOCK_SIZE;
 use blk_base::{Block, Ino, Text};
 use block_table::{BlockTable, SubState, Tree};
 use file_blocks::file_block;
-use file_extents::{clear_blocks, put_block};
+use file_extents::{Run, clear_blocks, put_block, put_text};
 use item_edit::inode_at;
 
 /// The number behind the last block that a text from an offset of a file on touches.
@@ -33,27 +34,106 @@ fn end_of(offset: u64, text: &Text) -> u64
     (offset + text.len() as u64 + BLOCK_SIZE - 1) / BLOCK_SIZE
 }
 
-/// A block that a text touches, with the text over it: the first and the last one are these, and the text covers each other
-/// one.
-fn block_between(number: u64, offset: u64, text: &Text, head: &Block, tail: &Block) -> Block
+/// Whether a text covers a block of a file.
+fn is_covered(number: u64, offset: u64, text: &Text) -> bool
+    requires number { number ≤ 4096 }
+    requires few { offset + length text.now ≤ most_file_bytes }
+    ensures { result ≡ covers offset (length text.now) number }
+{
+    let begin = BLOCK_SIZE * number;
+    offset <= begin && begin + BLOCK_SIZE <= offset + text.len() as u64
+}
+
+/// A block of a file that a text touches, with the text over it; none where the text covers it.
+fn edge(
+    table: &BlockTable,
+    tree: &Tree,
+    ino: Ino,
+    number: u64,
+    offset: u64,
+    text: &Text,
+) -> Option<Block>
+    requires tree { IsTree table.now tree.now }
+    requires number { number ≤ 4096 }
+    requires few { offset + length text.now ≤ most_file_bytes }
+    ensures { (given : Subvolume) (file : FileRecord) → GivesSubvolume table.now tree.now given → get given.inodes ino.0 ≡ Some (FileInode file)
+        → result ≡ edge_of file.blocks offset text.now number }
+{
+    if is_covered(number, offset, text) {
+        return None;
+    }
+    let old = file_block(table, tree, ino, number);
+    Some(block_over(old, number, offset, text))
+}
+
+/// A block that a text touches, with the text over it, of which the first and the last one are these; none where the text
+/// covers it.
+fn edge_at<'e>(
+    number: u64,
+    offset: u64,
+    text: &Text,
+    head: &'e Option<Block>,
+    tail: &'e Option<Block>,
+) -> Option<&'e Block>
     requires from { first_block offset ≤ number }
     requires to { number < end_block offset (length text.now) }
     requires few { offset + length text.now ≤ most_file_bytes }
-    ensures { (blocks : Blocks) → head.now ≡ block_written blocks offset text.now (first_block offset)
-        → ((last : ℕ) → last + 1 ≡ end_block offset (length text.now) → tail.now ≡ block_written blocks offset text.now last)
-        → result ≡ block_written blocks offset text.now number }
+    ensures { (blocks : Blocks) → head.now ≡ edge_of blocks offset text.now (first_block offset)
+        → ((last : ℕ) → last + 1 ≡ end_block offset (length text.now) → tail.now ≡ edge_of blocks offset text.now last)
+        → block_view result ≡ edge_of blocks offset text.now number }
 {
     if number == offset / BLOCK_SIZE {
-        return *head;
+        return head.as_ref();
     }
     if number + 1 == end_of(offset, text) {
-        return *tail;
+        return tail.as_ref();
     }
-    block_over(None, number, offset, text)
+    None
+}
+
+/// Gives a block of a file that a text touches a new block, and those behind it too that the text covers and for which Free
+/// ones stand one behind the other. The first and the last one that the text touches are these, where it doesn't cover them.
+/// It answers the run that they are in, which ends with the last of them.
+fn put_next(
+    table: &mut BlockTable,
+    tree: &mut Tree,
+    ino: Ino,
+    running: u64,
+    front: Run,
+    number: u64,
+    offset: u64,
+    text: &Text,
+    head: &Option<Block>,
+    tail: &Option<Block>,
+) -> Run
+    requires held { IsHeld table.old tree.old }
+    requires from { first_block offset ≤ number }
+    requires to { number < end_block offset (length text.now) }
+    requires few { offset + length text.now ≤ most_file_bytes }
+    requires may { (contents : Contents) × (blocks : Blocks) × MayPut table.old tree.old ino.0 contents blocks offset text.now number head.now tail.now }
+    requires front { StandsBefore (HasRun (tree_items table.old tree.old) ino.0) front.begin front.at.0 front.blocks }
+    requires room { HasRoom table.old (17 + (end_block offset (length text.now) - number)) }
+    ensures some { number < result.begin + result.blocks }
+    ensures within { result.begin + result.blocks ≤ end_block offset (length text.now) }
+    ensures edit { IsContentEdit table.old table.new tree.old tree.new running ino.0 (17 + (result.begin + result.blocks - number)) }
+    ensures contents { (contents : Contents) (blocks : Blocks) → MayPut table.old tree.old ino.0 contents blocks offset text.now number head.now tail.now
+        → HoldIn table.new tree.new ino.0 (with_blocks contents (block_written blocks offset text.now) number (result.begin + result.blocks)) }
+    ensures run { HasRun (tree_items table.new tree.new) ino.0 result.begin result.at.0 result.blocks }
+    ensures others { (begin at count : ℕ) → begin ≢ result.begin
+        → HasRun (tree_items table.new tree.new) ino.0 begin at count ↔ HasRun (tree_items table.old tree.old) ino.0 begin at count }
+    ensures joined { (at one : ℕ) × Joins front.begin front.at.0 front.blocks number at result.begin result.at.0 one }
+{
+    match edge_at(number, offset, text, head, tail) {
+        Some(block) => put_block(table, tree, ino, running, front, number, block),
+        None => {
+            let end = (offset + text.len() as u64) / BLOCK_SIZE;
+            put_text(table, tree, ino, running, front, number, end, offset, text)
+        }
+    }
 }
 
 /// Gives the blocks of a file that a text touches, which are holes, new blocks from left to right: the first and the last one
-/// these, and the others the text alone. It takes 306 blocks and buffers at most.
+/// these, where the text doesn't cover them, and the others the text alone. It takes 306 blocks and buffers at most.
 fn put_blocks(
     table: &mut BlockTable,
     tree: &mut Tree,
@@ -61,26 +141,31 @@ fn put_blocks(
     running: u64,
     offset: u64,
     text: &Text,
-    head: &Block,
-    tail: &Block,
+    head: &Option<Block>,
+    tail: &Option<Block>,
 )
     requires held { IsHeld table.old tree.old }
     requires some { 1 ≤ length text.now }
     requires short { length text.now ≤ 65536 }
     requires few { offset + length text.now ≤ most_file_bytes }
-    requires may { (contents : Contents) × (blocks : Blocks) × MayPut (tree_items table.old tree.old) (data_in table.old) ino.0 contents blocks offset text.now head.now tail.now }
+    requires may { (contents : Contents) × (blocks : Blocks)
+        × MayPut table.old tree.old ino.0 contents blocks offset text.now (first_block offset) head.now tail.now }
     requires room { HasRoom table.old 306 }
     ensures edit { IsContentEdit table.old table.new tree.old tree.new running ino.0 306 }
-    ensures contents { (contents : Contents) (blocks : Blocks) → MayPut (tree_items table.old tree.old) (data_in table.old) ino.0 contents blocks offset text.now head.now tail.now
-        → HoldContents (tree_items table.new tree.new) (data_in table.new) ino.0 (with_blocks contents (block_written blocks offset text.now) (first_block offset) (end_block offset (length text.now))) }
+    ensures contents { (contents : Contents) (blocks : Blocks)
+        → MayPut table.old tree.old ino.0 contents blocks offset text.now (first_block offset) head.now tail.now
+        → HoldIn table.new tree.new ino.0
+        (with_blocks contents (block_written blocks offset text.now) (first_block offset) (end_block offset (length text.now))) }
     ensures joined { AreJoined (HasRun (tree_items table.new tree.new) ino.0) (first_block offset) (end_block offset (length text.now)) }
 {
-    let first = offset / BLOCK_SIZE;
     let end = end_of(offset, text);
-    let mut front = run_in_front(table, tree, ino, first);
-    for number in first..end {
-        let block = block_between(number, offset, text, head, tail);
-        front = put_block(table, tree, ino, running, front, number, &block);
+    let mut number = offset / BLOCK_SIZE;
+    let mut front = run_in_front(table, tree, ino, number);
+    while number < end {
+        front = put_next(
+            table, tree, ino, running, front, number, offset, text, head, tail,
+        );
+        number = front.begin + front.blocks;
     }
 }
 
@@ -93,16 +178,15 @@ fn write_blocks(table: &mut BlockTable, sub: &mut SubState, ino: Ino, offset: u6
     requires room { HasRoom table.old 442 }
     ensures edit { IsContentEdit table.old table.new sub.old.tree sub.new.tree sub.old.running ino.0 442 }
     ensures contents { (run : RunSub) (file : FileRecord) → GivesFile table.old sub.old run ino.0 file
-        → HoldContents (tree_items table.new sub.new.tree) (data_in table.new) ino.0 (with_blocks (get file.blocks) (block_written file.blocks offset text.now) (first_block offset) (end_block offset (length text.now))) }
+        → HoldIn table.new sub.new.tree ino.0
+        (with_blocks (get file.blocks) (block_written file.blocks offset text.now) (first_block offset) (end_block offset (length text.now))) }
     ensures joined { AreJoined (HasRun (tree_items table.new sub.new.tree) ino.0) (first_block offset) (end_block offset (length text.now)) }
     ensures state { sub.new ≡ record sub.old { tree = sub.new.tree } }
 {
     let first = offset / BLOCK_SIZE;
     let end = end_of(offset, text);
-    let old = file_block(table, &sub.tree, ino, first);
-    let head = block_over(old, first, offset, text);
-    let old = file_block(table, &sub.tree, ino, end - 1);
-    let tail = block_over(old, end - 1, offset, text);
+    let head = edge(table, &sub.tree, ino, first, offset, text);
+    let tail = edge(table, &sub.tree, ino, end - 1, offset, text);
     let running = sub.running;
     let tree = &mut sub.tree;
     clear_blocks(table, tree, ino, running, first, end);

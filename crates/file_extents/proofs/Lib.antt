@@ -6,3 +6,4 @@ pub mod Held
 pub mod Cutting
 pub mod Clearing
 pub mod Filling
+pub mod Taking

@@ -1,11 +1,12 @@
 -- Runs of blocks that are cut, taken out and added: which contents they have then.
 use Rattle.std.proofs.Common.{◌≡◌, ◌≢◌, ◌⊎◌, ◌≤◌, ◌<◌, ◌+◌, ◌-◌, ◌*◌, ◌&&◌, ℕ, Bool, true, false, List, Some, None, sym, ap, subst, ◌∙◌, arith, inl, inr, nat_lt}
 use Rattle.std.specs.Prelude.{nat_le, if◌then◌else◌}
-use Rattle.std.proofs.lemmas.Bool.{and_from, cases_Bool, cases_eq, cases_lt, eq-eqb, le-leb, ne_eqb, true≢false}
+use Rattle.std.proofs.lemmas.Bool.{and_from, cases_Bool, cases_eq, cases_lt, eq-eqb, le-leb, lt-ltb, ne_eqb, true≢false}
 use Rattle.std.proofs.lemmas.Bool.Decides.{nat_tests}
+use Rattle.blk_base.specs.Leaf.{Item}
 use Rattle.flat_model.proofs.Maps.{some_none}
 use Rattle.volume_image.specs.Subvolume.{Data}
-use Rattle.file_extents.specs.Extents.{AreRunsOf, Contents, IsCovered, IsOver, NoneOver, cleared, with_block}
+use Rattle.file_extents.specs.Extents.{AreHoles, AreRunsOf, Contents, HoldContents, IsCovered, IsOver, NoneOver, cleared, with_block, with_blocks}
 
 -- one run is written in place of the one that begins where it does; every other one stays
 pub record AreWritten (old new : ℕ → ℕ → ℕ → Type 0) (begin at count : ℕ) : Type 0 where
@@ -121,8 +122,8 @@ module _ (R0 R1 R2 : ℕ → ℕ → ℕ → Type 0) (blocks : Data) (number beg
 
 -- ---- runs that go
 
-outside_test : (from to n : ℕ) → (n < from) ⊎ (to ≤ n) → (nat_le from n && nat_lt n to) ≡ false
-outside_test from to n h = grind (arith, nat_tests)
+pub outside : (from to n : ℕ) → (n < from) ⊎ (to ≤ n) → (nat_le from n && nat_lt n to) ≡ false
+outside from to n h = grind (arith, nat_tests)
 
 inside_test : (from to n : ℕ) → (nat_le from n && nat_lt n to) ≡ false → (n < from) ⊎ (to ≤ n)
 inside_test from to n h = elim (cases_lt n from) [
@@ -138,7 +139,7 @@ inside_test from to n h = elim (cases_lt n from) [
 
 pub cleared_out : (contents : Contents) (from to n : ℕ) → (n < from) ⊎ (to ≤ n) → cleared contents from to n ≡ contents n
 cleared_out contents from to n h =
-    ap (λ (b : Bool). if b then None else contents n) (outside_test from to n h)
+    ap (λ (b : Bool). if b then None else contents n) (outside from to n h)
 
 record WasOutside (contents : Contents) (from to n : ℕ) (block : List ℕ) : Type 0 where
   out : (n < from) ⊎ (to ≤ n)
@@ -181,7 +182,7 @@ module _ (R0 R2 : ℕ → ℕ → ℕ → Type 0) (was is : Data) (contents : Co
     apart = λ b a c b' a' c' r r' less. are.apart b a c b' a' c' (comes b a c r).0 (comes b' a' c' r').0 less;
   }
 
--- ---- a run that grows
+-- ---- blocks put among contents
 
 pub with_here : (contents : Contents) (place n : ℕ) (bytes : List ℕ) → n ≡ place → with_block contents place bytes n ≡ Some bytes
 with_here contents place n bytes e = ap (λ (b : Bool). if b then Some bytes else contents n) (eq-eqb n place e)
@@ -189,70 +190,122 @@ with_here contents place n bytes e = ap (λ (b : Bool). if b then Some bytes els
 pub with_other : (contents : Contents) (place n : ℕ) (bytes : List ℕ) → n ≢ place → with_block contents place bytes n ≡ contents n
 with_other contents place n bytes e = ap (λ (b : Bool). if b then Some bytes else contents n) (ne_eqb n place e)
 
-module _ (R0 R2 : ℕ → ℕ → ℕ → Type 0) (was is : Data) (contents : Contents) (begin at count number : ℕ) (content : List ℕ) (sole : AreSole R0) (some : HaveSome R0) (are : AreRunsOf R0 was contents)
-    (hole : contents number ≡ None) (front : (count ≡ 0) ⊎ R0 begin at count) (follows : begin + count ≡ number) (written : AreWritten R0 R2 begin at (count + 1))
-    (new : is (at + 4096 * count) ≡ Some content) (same : (b a c i : ℕ) → R0 b a c → i < c → is (a + 4096 * i) ≡ was (a + 4096 * i)) where
-  no_hole : (n : ℕ) (block : List ℕ) → contents n ≡ Some block → n ≢ number
-  no_hole n block h e = some_none block (sym h ∙ ap contents e ∙ hole)
+pub inside : (from to k : ℕ) → from ≤ k → k < to → (nat_le from k && nat_lt k to) ≡ true
+inside from to k low high = and_from (nat_le from k) (nat_lt k to) (le-leb from k low) (lt-ltb k to high)
 
-  -- no run has the block
-  none_has : (b a c : ℕ) → R0 b a c → b ≤ number → b + c ≤ number
+module _ (contents : Contents) (blocks : ℕ → List ℕ) where
+  pub with_in : (from to k : ℕ) → from ≤ k → k < to → with_blocks contents blocks from to k ≡ Some (blocks k)
+  with_in from to k low high = ap (λ (b : Bool). if b then Some (blocks k) else contents k) (inside from to k low high)
+
+  pub with_out : (from to k : ℕ) → (k < from) ⊎ (to ≤ k) → with_blocks contents blocks from to k ≡ contents k
+  with_out from to k h = ap (λ (b : Bool). if b then Some (blocks k) else contents k) (outside from to k h)
+
+-- one block put is one of blocks put
+pub with_one : (contents : Contents) (block : List ℕ) (number k : ℕ) → with_blocks contents (λ n. block) number (number + 1) k ≡ with_block contents number block k
+with_one contents block number k = elim (cases_eq k number) [
+  | inl same ↦ with_in contents (λ n. block) number (number + 1) k (omega (arith, same)) (omega (arith, same)) ∙ sym (with_here contents number k block same)
+  | inr other ↦ with_out contents (λ n. block) number (number + 1) k (elim (cases_lt k number) [ inl low ↦ inl low | inr high ↦ inr (omega (arith, high, other)) ]) ∙ sym (with_other contents number k block other)
+]
+
+pub hole_one : (contents : Contents) (number : ℕ) → contents number ≡ None → AreHoles contents number (number + 1)
+hole_one contents number none n low high = ap contents (omega (arith, low, high)) ∙ none
+
+-- the same contents by other words
+pub hold_same : (items : List Item) (data_at : Data) (ino : ℕ) (one two : Contents) → ((k : ℕ) → one k ≡ two k) → HoldContents items data_at ino one → HoldContents items data_at ino two
+hold_same items data_at ino one two same hold = record {
+  each = hold.each;
+  are = record {
+    holds = λ b a c i r less. let h = hold.are.holds b a c i r less in (h.0, h.1, sym (same (b + i)) ∙ h.2);
+    covered = λ number block has. hold.are.covered number block (same number ∙ has);
+    apart = hold.are.apart;
+  };
+}
+
+-- ---- a run that grows
+
+module _ (R0 R2 : ℕ → ℕ → ℕ → Type 0) (was is : Data) (contents : Contents) (begin at count number k : ℕ) (blocks : ℕ → List ℕ) (sole : AreSole R0) (some : HaveSome R0) (are : AreRunsOf R0 was contents)
+    (holes : AreHoles contents number (number + k)) (one : 1 ≤ k) (front : (count ≡ 0) ⊎ R0 begin at count) (follows : begin + count ≡ number) (written : AreWritten R0 R2 begin at (count + k))
+    (new : (i : ℕ) → i < k → is (at + 4096 * (count + i)) ≡ Some (blocks (number + i))) (same : (b a c i : ℕ) → R0 b a c → i < c → is (a + 4096 * i) ≡ was (a + 4096 * i)) where
+  no_hole : (n : ℕ) (block : List ℕ) → contents n ≡ Some block → (n < number) ⊎ (number + k ≤ n)
+  no_hole n block h = elim (cases_lt n number) [
+    | inl low ↦ inl low
+    | inr high ↦ elim (cases_lt n (number + k)) [
+      | inl within ↦ absurd (some_none block (sym h ∙ holes n high within))
+      | inr past ↦ inr past
+    ]
+  ]
+
+  -- a run that begins below their end ends in front of them
+  none_has : (b a c : ℕ) → R0 b a c → b < number + k → b + c ≤ number
   none_has b a c r low = elim (cases_lt number (b + c)) [
-    | inl inside ↦ let h = are.holds b a c (number - b) r (omega (arith, low, inside)) in absurd (no_hole (b + (number - b)) h.0 h.2 (omega (arith, low)))
+    | inl inside ↦ elim (cases_lt b number) [
+      | inl before ↦
+          let h = are.holds b a c (number - b) r (omega (arith, before, inside)) in
+          absurd (some_none h.0 (sym h.2 ∙ holes (b + (number - b)) (omega (arith, before)) (omega (arith, before, one))))
+      | inr within ↦
+          let h = are.holds b a c 0 r (some b a c r) in
+          absurd (some_none h.0 (sym h.2 ∙ holes (b + 0) (omega (arith, within)) (omega (arith, low))))
+    ]
     | inr past ↦ past
   ]
 
   was_there : 1 ≤ count → R0 begin at count
   was_there more = elim front [ inl none ↦ absurd (omega (arith, none, more)) | inr there ↦ there ]
 
-  grown_at : (b a c i : ℕ) → (b ≡ begin) × (a ≡ at) × (c ≡ count + 1) → i < c → (block : List ℕ) × (is (a + 4096 * i) ≡ Some block) × (with_block contents number content (b + i) ≡ Some block)
+  grown_at : (b a c i : ℕ) → (b ≡ begin) × (a ≡ at) × (c ≡ count + k) → i < c → (block : List ℕ) × (is (a + 4096 * i) ≡ Some block) × (with_blocks contents blocks number (number + k) (b + i) ≡ Some block)
   grown_at b a c i e less = elim (cases_lt i count) [
     | inl low ↦
         let r = was_there (omega (arith, low)) in
         let h = are.holds begin at count i r low in
         let place : b + i ≡ begin + i = omega (arith, e.0) in
         let address : a + 4096 * i ≡ at + 4096 * i = omega (arith, e.1) in
-        (h.0, ap is address ∙ same begin at count i r low ∙ h.1, with_other contents number (b + i) content (omega (arith, place, follows, low)) ∙ ap contents place ∙ h.2)
+        (h.0, ap is address ∙ same begin at count i r low ∙ h.1, with_out contents blocks number (number + k) (b + i) (inl (omega (arith, place, follows, low))) ∙ ap contents place ∙ h.2)
     | inr high ↦
-        let last : i ≡ count = omega (arith, high, less, e.2) in
-        let address : a + 4096 * i ≡ at + 4096 * count = omega (arith, e.1, last) in
-        (content, ap is address ∙ new, with_here contents number (b + i) content (omega (arith, e.0, last, follows)))
+        let address : a + 4096 * i ≡ at + 4096 * (count + (i - count)) = omega (arith, e.1, high) in
+        let place : number + (i - count) ≡ b + i = omega (arith, e.0, follows, high) in (
+          blocks (b + i),
+          ap is address ∙ new (i - count) (omega (arith, less, e.2, high)) ∙ ap (λ (n : ℕ). Some (blocks n)) place,
+          with_in contents blocks number (number + k) (b + i) (omega (arith, place)) (omega (arith, place, less, e.2, high)),
+        )
   ]
 
-  other_at : (b a c i : ℕ) → R0 b a c → i < c → (block : List ℕ) × (is (a + 4096 * i) ≡ Some block) × (with_block contents number content (b + i) ≡ Some block)
+  other_at : (b a c i : ℕ) → R0 b a c → i < c → (block : List ℕ) × (is (a + 4096 * i) ≡ Some block) × (with_blocks contents blocks number (number + k) (b + i) ≡ Some block)
   other_at b a c i r less =
       let h = are.holds b a c i r less in
-      (h.0, same b a c i r less ∙ h.1, with_other contents number (b + i) content (no_hole (b + i) h.0 h.2) ∙ h.2)
+      (h.0, same b a c i r less ∙ h.1, with_out contents blocks number (number + k) (b + i) (no_hole (b + i) h.0 h.2) ∙ h.2)
 
-  cover_old : (n : ℕ) → n ≢ number → IsCovered R0 n → IsCovered R2 n
-  cover_old n other cover = elim (cases_eq cover.begin begin) [
+  cover_old : (n : ℕ) → IsCovered R0 n → IsCovered R2 n
+  cover_old n cover = elim (cases_eq cover.begin begin) [
     | inl same ↦ elim (cases_lt 0 count) [
       | inl more ↦
           let count_is : cover.count ≡ count = (sole begin cover.at cover.count at count (subst (λ (b : ℕ). R0 b cover.at cover.count) same cover.run) (was_there more)).1 in
-          record { begin = begin; at = at; count = count + 1; run = written.here; from = omega (arith, same, cover.from); to = omega (arith, same, count_is, cover.to) }
+          record { begin = begin; at = at; count = count + k; run = written.here; from = omega (arith, same, cover.from); to = omega (arith, same, count_is, cover.to) }
       | inr none ↦
-          let past = none_has cover.begin cover.at cover.count cover.run (omega (arith, same, follows)) in
+          let past = none_has cover.begin cover.at cover.count cover.run (omega (arith, same, follows, one)) in
           absurd (omega (arith, past, same, follows, none, cover.from, cover.to))
     ]
     | inr differs ↦ record { begin = cover.begin; at = cover.at; count = cover.count; run = written.stays cover.begin cover.at cover.count differs cover.run; from = cover.from; to = cover.to }
   ]
 
-  covered_now : (n : ℕ) (block : List ℕ) → with_block contents number content n ≡ Some block → IsCovered R2 n
-  covered_now n block h = elim (cases_eq n number) [
-    | inl same ↦ record { begin = begin; at = at; count = count + 1; run = written.here; from = omega (arith, same, follows); to = omega (arith, same, follows) }
-    | inr other ↦ cover_old n other (are.covered n block (sym (with_other contents number n content other) ∙ h))
+  covered_now : (n : ℕ) (block : List ℕ) → with_blocks contents blocks number (number + k) n ≡ Some block → IsCovered R2 n
+  covered_now n block h = elim (cases_lt n number) [
+    | inl low ↦ cover_old n (are.covered n block (sym (with_out contents blocks number (number + k) n (inl low)) ∙ h))
+    | inr high ↦ elim (cases_lt n (number + k)) [
+      | inl within ↦ record { begin = begin; at = at; count = count + k; run = written.here; from = omega (arith, high, follows); to = omega (arith, within, follows) }
+      | inr past ↦ cover_old n (are.covered n block (sym (with_out contents blocks number (number + k) n (inr past)) ∙ h))
+    ]
   ]
 
-  behind_new : (b a c : ℕ) → R0 b a c → begin < b → begin + (count + 1) ≤ b
-  behind_new b a c r less = elim (cases_lt number b) [
-    | inl past ↦ omega (arith, past, follows)
-    | inr low ↦
+  behind_new : (b a c : ℕ) → R0 b a c → begin < b → begin + (count + k) ≤ b
+  behind_new b a c r less = elim (cases_lt b (number + k)) [
+    | inl low ↦
         let ends = none_has b a c r low in
-        let one = some b a c r in
+        let more = some b a c r in
         elim (cases_lt 0 count) [
-          | inl more ↦ let apart = are.apart begin at count b a c (was_there more) r less in absurd (omega (arith, apart, ends, one, follows))
-          | inr none ↦ absurd (omega (arith, none, less, low, follows))
+          | inl there ↦ let apart = are.apart begin at count b a c (was_there there) r less in absurd (omega (arith, apart, ends, more, follows))
+          | inr none ↦ absurd (omega (arith, none, less, ends, more, follows))
         ]
+    | inr past ↦ omega (arith, past, follows)
   ]
 
   before_new : (b a c : ℕ) → R0 b a c → b < begin → b + c ≤ begin
@@ -261,7 +314,7 @@ module _ (R0 R2 : ℕ → ℕ → ℕ → Type 0) (was is : Data) (contents : Co
     | inr none ↦ let h = none_has b a c r (omega (arith, less, follows)) in omega (arith, h, none, follows)
   ]
 
-  pub grow_holds : AreRunsOf R2 is (with_block contents number content)
+  pub grow_holds : AreRunsOf R2 is (with_blocks contents blocks number (number + k))
   grow_holds = record {
     holds = λ b a c i r less. elim (written.from b a c r) [ inl e ↦ grown_at b a c i e less | inr old ↦ other_at b a c i old.1 less ];
     covered = covered_now;

@@ -1,17 +1,18 @@
 -- The extents of one file among the items of a tree, and what an edit of them leaves ("EXTENT_DATA").
-use Rattle.std.specs.Prelude.{◌≡◌, ◌⊎◌, ◌≤◌, ◌<◌, ◌+◌, ◌-◌, ◌*◌, ◌^◌, ◌&&◌, ℕ, zero, suc, List, All, Contains, Option, Some, None, Ok, is_some, nat_eq, nat_le, nat_lt, if◌then◌else◌}
+use Rattle.std.specs.Prelude.{◌≡◌, ◌⊎◌, ◌≤◌, ◌<◌, ◌+◌, ◌-◌, ◌*◌, ◌^◌, ◌&&◌, ℕ, zero, suc, List, drop, take, All, Contains, Option, Some, None, Ok, is_some, nat_eq, nat_le, nat_lt, if◌then◌else◌}
 use Rattle.blk_base.specs.declared.key.Key.{Key}
 use Rattle.blk_base.specs.Extents.{Regular, extent_of}
 use Rattle.blk_base.specs.Keys.{extent_data}
 use Rattle.blk_base.specs.Leaf.{Item}
 use Rattle.blk_base.specs.Trees.{NoneTwice}
 use Rattle.block_table.specs.declared.tree.Tree.{Tree}
-use Rattle.block_table.specs.Table.{Table}
+use Rattle.block_table.specs.Table.{Table, free_blocks}
 use Rattle.block_table.specs.TreeIn.{IsSealedTree, IsTaken, block_at}
+use Rattle.tree_blocks.specs.Steps.{IsSameBut, IsTakenAt}
 use Rattle.tree_range.specs.Between.{data_under}
 use Rattle.tree_range.specs.Shape.{IsTree, tree_items}
 use Rattle.tree_frame.specs.Frame.{AreCurrent, IsEdit, TakesAtMost}
-use Rattle.volume_image.specs.Subvolume.{Data, item_addresses, make_key}
+use Rattle.volume_image.specs.Subvolume.{Data, item_addresses, make_key, run_addresses}
 use Rattle.table_volume.specs.Edited.{BearGeneration, KeepsClean}
 use Rattle.table_volume.specs.Gives.{data_in, sub_reach}
 use Rattle.table_volume.specs.Operated.{HasRoom}
@@ -29,6 +30,18 @@ cleared contents from to = λ number. if nat_le from number && nat_lt number to 
 -- these with a block in place of one
 abbrev pub with_block : Contents → ℕ → List ℕ → Contents
 with_block contents place bytes = λ number. if nat_eq number place then Some bytes else contents number
+
+-- these with other blocks from one number on and below another
+abbrev pub with_blocks : Contents → (ℕ → List ℕ) → ℕ → ℕ → Contents
+with_blocks contents blocks from to = λ number. if nat_le from number && nat_lt number to then Some (blocks number) else contents number
+
+-- each block from one number on and below another is a hole
+abbrev pub AreHoles : Contents → ℕ → ℕ → Type 0
+AreHoles contents from to = (number : ℕ) → from ≤ number → number < to → contents number ≡ None
+
+-- the bytes that a text which begins at an offset of a file has for a block that it covers
+abbrev pub text_block : ℕ → List ℕ → ℕ → List ℕ
+text_block offset text number = take 4096 (drop (4096 * number - offset) text)
 
 -- how many of so many blocks from a number on are no holes
 abbrev pub held_between : Contents → ℕ → ℕ → ℕ
@@ -104,7 +117,20 @@ pub data Joins (begin at count number place : ℕ) (begin' at' count' : ℕ) : T
   Alone : (apart : 1 ≤ count → begin + count ≡ number → at + 4096 * count ≡ place → 4096 ≤ count) (own : begin' ≡ number) (own_at : at' ≡ place) (one : count' ≡ 1)
       → Joins begin at count number place begin' at' count'
 
+-- the file has these contents in a tree that stands in a table
+abbrev pub HoldIn : Table → Tree → ℕ → Contents → Type 0
+HoldIn table tree ino contents = HoldContents (tree_items table tree) (data_in table) ino contents
+
 -- ---- edits
+
+-- So many blocks one behind the other from a byte address on were Free and are Dirty, each with the bytes of its number among them; every
+-- other block is as it was (own).
+pub record AreTakenAt (old new : Table) (at count : ℕ) (bytes : ℕ → List ℕ) : Type 0 where
+  pub taken : (i : ℕ) → i < count → IsTakenAt old new (at + 4096 * i)
+  pub filled : (i : ℕ) → i < count → (block_at new (at + 4096 * i)).bytes ≡ bytes i
+  pub others : IsSameBut old new (run_addresses at count)
+  pub spare : new.spare + count ≡ old.spare
+  pub free : free_blocks new + count ≡ free_blocks old
 
 -- a tree stands in the table with the data of its files: each of its blocks is taken, current, and there once
 pub record IsHeld (table : Table) (tree : Tree) : Type 0 where

@@ -1,35 +1,19 @@
 //! A hole of a file that gets a block.
-ghost use Rattle.std.specs.Prelude.{◌≡◌, ◌≢◌, ◌↔◌, ◌⊎◌, ◌≤◌, ◌<◌, ◌+◌, ◌*◌, ◌^◌, ◌∷◌, [], ℕ, None};
+ghost use Rattle.std.specs.Prelude.{◌≡◌, ◌≢◌, ◌↔◌, ◌⊎◌, ◌≤◌, ◌<◌, ◌+◌, ◌^◌, ℕ, None};
 ghost use Rattle.block_table.specs.Table.{free_blocks};
-ghost use Rattle.block_table.specs.TreeIn.{block_at};
-ghost use Rattle.tree_blocks.specs.Steps.{IsSameBut, IsTakenAt};
 ghost use Rattle.tree_range.specs.Shape.{tree_items};
 ghost use Rattle.table_volume.specs.Gives.{data_in};
 ghost use Rattle.file_extents.specs.Extents.{Contents, HasRun, HoldContents, IsContentEdit, IsHeld, Joins, StandsBefore, with_block};
 
+use crate::fresh::fresh;
 use crate::run::{Run, write_run};
 use blk_base::format::BLOCK_SIZE;
 use blk_base::{Addr, Block, Ino};
 use block_table::{BlockTable, Tree};
 
-/// Takes a Free block that a volume may use, and makes it Dirty with these bytes.
-fn fresh(table: &mut BlockTable, bytes: &Block) -> Addr
-    requires spare { 1 ≤ table.old.spare }
-    requires free { 1 ≤ free_blocks table.old }
-    ensures taken { IsTakenAt table.old table.new result.0 }
-    ensures bytes { (block_at table.new result.0).bytes ≡ bytes.now }
-    ensures others { IsSameBut table.old table.new (result.0 ∷ []) }
-    ensures spare { table.new.spare + 1 ≡ table.old.spare }
-    ensures free { free_blocks table.new + 1 ≡ free_blocks table.old }
-{
-    let at = table.take();
-    *table.block_mut(at) = *bytes;
-    at
-}
-
 /// The run that a block of a file makes with one in front of it: a longer one where the block follows on it, in the file and
 /// on the disk, and it has fewer than 4096 blocks; else a run of its own.
-fn joined(front: Run, number: u64, at: Addr) -> Run
+pub(crate) fn joined(front: Run, number: u64, at: Addr) -> Run
     requires small { number < 2 ^ 52 }
     ensures { Joins front.begin front.at.0 front.blocks number at.0 result.begin result.at.0 result.blocks }
 {

@@ -4,3 +4,4 @@ pub mod Done
 pub mod Rows
 pub mod FileRows
 pub mod Writes
+pub mod Judged

@@ -1,5 +1,5 @@
 -- What a write and a truncate of the file at a path come to.
-use Rattle.std.proofs.Common.{◌≡◌, ◌≤◌, ◌<◌, ◌+◌, ◌*◌, ℕ, Bool, true, false, cond, List, [], ◌∷◌, Option, Some, None, length, nat_lt, refl, sym, ap, subst, ◌∙◌, arith}
+use Rattle.std.proofs.Common.{◌≡◌, ◌≤◌, ◌<◌, ◌+◌, ◌*◌, ℕ, Bool, List, [], ◌∷◌, Some, length, nat_lt, ap, ◌∙◌}
 use Rattle.std.specs.FinMap.{get}
 use Rattle.std.proofs.lemmas.Bool.{le-ltb, lt-ltb}
 use Rattle.block_table.specs.declared.tree.SubState.{SubState}
@@ -12,16 +12,12 @@ use Rattle.flat_model.specs.Operations.{Outcome, file_rows, file_there, first_an
 use Rattle.flat_model.specs.Records.{FileInode, FileRecord, InodeRecord}
 use Rattle.flat_model.specs.Volume.{RunSub}
 use Rattle.flat_model.specs.Walk.{WalkEnd, record_at, walk}
-use Rattle.flat_model.proofs.Steps.{truncate_sound, write_sound}
-use Rattle.file_contents.specs.Given.{GivesFile}
-use Rattle.table_volume.specs.Edited.{Makes}
-use Rattle.table_volume.specs.Operated.{HasRoom, IsOperated}
+use Rattle.table_volume.specs.Operated.{IsOperated}
 use Rattle.table_volume.specs.Running.{GivesRun}
-use Rattle.table_volume.proofs.SubEdits.{sub_more}
-use Rattle.file_ops.specs.Room.{most_for, room_for}
+use Rattle.file_ops.specs.Room.{room_for}
 use Rattle.file_ops.specs.There.{IsFileAt}
 use Rattle.file_ops.proofs.Answered.{finished, here, past, refused}
-use Rattle.file_ops.proofs.Done.{operated, record_written, written_outcome}
+use Rattle.file_ops.proofs.Done.{record_written, written_outcome}
 use Rattle.file_ops.proofs.FileRows.{file_more}
 use Rattle.file_ops.proofs.Placed.{record_is}
 

@@ -52,7 +52,7 @@ pub fn read(
 }
 
 /// The number of the file at a path, or the answer where none is there.
-fn find_file(table: &BlockTable, sub: &SubState, path: &Path) -> Result<Ino, Answer>
+pub(crate) fn find_file(table: &BlockTable, sub: &SubState, path: &Path) -> Result<Ino, Answer>
     requires { IsTree table.now sub.now.tree }
     ensures { (run : RunSub) → GivesRun table.now sub.now run
         → MatchResult result (λ ino. IsFileAt run.sub (walk run.sub path.now) ino.0) (IsRefusedFile run (walk run.sub path.now)) }

@@ -11,3 +11,4 @@ pub mod Totals
 pub mod Dropping
 pub mod Removed
 pub mod Moved
+pub mod Judged

@@ -44,7 +44,7 @@ fn is_loop(one: &Path, two: &Path, first: &End<'_>, second: &End<'_>) -> bool
 }
 
 /// The first refusal of an exchange but for one by collision, and Plain where there is nothing to do.
-fn exchange_answer(
+pub(crate) fn exchange_answer(
     sub: &SubState,
     one: &Path,
     two: &Path,
@@ -73,7 +73,7 @@ fn exchange_answer(
 }
 
 /// The name at the end of a walk, where there is one.
-fn entry_at<'p>(end: &End<'p>) -> Option<NameEntry<'p>>
+pub(crate) fn entry_at<'p>(end: &End<'p>) -> Option<NameEntry<'p>>
     ensures { MatchOption result ((name : FlatName) → end_view end.now ≢ at_name name) (λ entry. end_view end.now ≡ at_name (name_of entry)) }
 {
     match end {

@@ -70,7 +70,7 @@ fn is_loop(
 }
 
 /// The first refusal of a rename but for one by collision, and Plain where there is nothing to do.
-fn rename_answer(
+pub(crate) fn rename_answer(
     table: &BlockTable,
     sub: &SubState,
     old: &Path,

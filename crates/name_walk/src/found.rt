@@ -37,6 +37,17 @@ pub enum End<'p> {
     Blocked,
 }
 
+/// Where a path leads in a subvolume, by the inode alone.
+#[derive(Clone, Copy, Debug, PartialEq, Eq)]
+pub enum Target {
+    /// To the inode of this number.
+    Inode(u64),
+    /// Nowhere: a name isn't in its directory.
+    Missing,
+    /// Nowhere: what stands before the last name is no directory.
+    Blocked,
+}
+
 impl End<'_> {
     /// Whether the walk met a name that isn't in its directory, the last one included.
     pub fn is_absent(&self) -> bool

@@ -12,9 +12,9 @@ mod lengths;
 mod paths;
 mod slots;
 
-pub use found::{End, Held};
+pub use found::{End, Held, Target};
 pub use inode::{has_entries, inode_item, is_dir, links, record_kind};
 pub use item::entries_at;
 pub use lengths::{dir_item_len, extref_item_len, ref_item_len};
-pub use paths::walk;
+pub use paths::{walk, walk_to};
 pub use slots::{held_at, slot, slot_ino};

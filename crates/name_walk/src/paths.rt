@@ -4,11 +4,11 @@ ghost use Rattle.flat_model.specs.Step.{IsPath};
 ghost use Rattle.flat_model.specs.Volume.{Subvolume, is_dir_at};
 ghost use Rattle.flat_model.specs.Walk.{WalkEnd, walk};
 ghost use Rattle.tree_range.specs.Shape.{IsTree};
-ghost use Rattle.name_walk.specs.Ends.{end_view};
+ghost use Rattle.name_walk.specs.Ends.{end_view, target_of};
 ghost use Rattle.name_walk.specs.Given.{GivesCoherent};
 ghost use Rattle.name_walk.specs.Leads.{IsStep, next_end, slot_end};
 
-use crate::found::End;
+use crate::found::{End, Target};
 use crate::slots::{Lead, held_at, lead_at};
 use blk_base::Name;
 use blk_base::format::FIRST_FREE;
@@ -94,5 +94,19 @@ pub fn walk<'p>(table: &BlockTable, tree: &Tree, path: &'p Path) -> End<'p>
         },
         Step::Missing => End::Missing,
         Step::Blocked => End::Blocked,
+    }
+}
+
+/// Where a path leads in the subvolume of a tree, by the inode alone: one search for each name (after the kernel's path walk,
+/// without symlinks).
+pub fn walk_to(table: &BlockTable, tree: &Tree, path: &Path) -> Target
+    requires { IsTree table.now tree.now }
+    ensures { (sub : Subvolume) → GivesCoherent table.now tree.now sub → result ≡ target_of (walk sub path.now) }
+{
+    match steps(table, tree, path) {
+        Step::Root => Target::Inode(FIRST_FREE),
+        Step::Taken { lead, .. } => Target::Inode(lead.ino),
+        Step::Free { .. } | Step::Missing => Target::Missing,
+        Step::Blocked => Target::Blocked,
     }
 }

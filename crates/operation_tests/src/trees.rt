@@ -12,7 +12,7 @@ use item_extent::Extent;
 use std::alloc::Global;
 use std::marker::Model;
 use tree_range::range;
-use volume_ops::{has_room, operate};
+use volume_ops::{need, operate};
 use volume_seal::count_blocks;
 
 /// The blocks of a table, and its buffers.
@@ -62,7 +62,9 @@ impl TreeVolume {
     pub(crate) fn apply(&mut self, alloc: Global, op: &Op) -> Result<Option<Answer>, OutOfMemory>
         requires { IsInLimits op.now }
     {
-        if !has_room(&self.table, &self.states, op) {
+        let need = need(&self.table, &self.states, op);
+        let (free, spare) = (self.table.free_count(), self.table.spare());
+        if u64::from(free) < need || u64::from(spare) < need {
             return Ok(None);
         }
         let answer = operate(alloc, &mut self.table, &mut self.states, op)?;

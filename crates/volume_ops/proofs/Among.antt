@@ -7,6 +7,7 @@ use Rattle.std.specs.FinMap.{get}
 use Rattle.std.proofs.lemmas.Bool.{eqb-true, eq-eqb, ltb-false, true≢false}
 use Rattle.std.proofs.lemmas.List.Quantifiers.{position-Some}
 use Rattle.std.proofs.lemmas.List.Sums.{fails_before_first}
+use Rattle.blk_base.specs.declared.key.SubId.{SubId}
 use Rattle.blk_base.proofs.Members.{in_cons, in_nothing}
 use Rattle.block_table.specs.declared.tree.SubState.{SubState}
 use Rattle.block_table.specs.Table.{Table}
@@ -47,7 +48,7 @@ got [] k d less = absurd (omega (arith, less))
 got (x ∷ xs) zero d less = refl
 got (x ∷ xs) (suc k) d less = got xs k d (omega (arith, less))
 
-pub among : (states : List SubState) (place id : ℕ) (d : SubState) → position (λ (s : SubState). s.tree.owner == id) states ≡ Some place → IsAmong states place id (get_or states place d)
+among : (states : List SubState) (place id : ℕ) (d : SubState) → position (λ (s : SubState). s.tree.owner == id) states ≡ Some place → IsAmong states place id (get_or states place d)
 among states place id d is =
     let at = position-Some (λ (s : SubState). s.tree.owner == id) states place d is in
     record { cut = cut_at states place (get_or states place d) (got states place d at.0); owner = eqb-true _ _ at.1 }
@@ -58,6 +59,22 @@ set_cut [] place state less = absurd (omega (arith, less))
 set_cut (x ∷ xs) zero state less = refl
 set_cut (x ∷ xs) (suc place) state less = ap (λ (l : List SubState). x ∷ l) (set_cut xs place state (omega (arith, less)))
 
-pub inside : (states : List SubState) (place id : ℕ) → position (λ (s : SubState). s.tree.owner == id) states ≡ Some place → place < length states
+inside : (states : List SubState) (place id : ℕ) → position (λ (s : SubState). s.tree.owner == id) states ≡ Some place → place < length states
 inside [] place id is = absurd (some_none place (sym is))
 inside (state ∷ states) place id is = (position-Some (λ (s : SubState). s.tree.owner == id) (state ∷ states) place state is).0
+
+-- ---- the search for it
+
+abbrev pub no_state : SubState
+no_state = record { tree = record { root = record { 0 = 0 }; level = 0; owner = 0 }; next_ino = 0; next_index = 0; running = 0 }
+
+-- the subvolume's number, as the search was told it
+pub found_at : (states : List SubState) (place : Option ℕ) (told : SubId) (id : SubId) → told ≡ id → place ≡ position (λ (s : SubState). s.tree.owner == told.0) states → position (λ (s : SubState). s.tree.owner == id.0) states ≡ place
+found_at states place told id same is = ap (λ (i : SubId). position (λ (s : SubState). s.tree.owner == i.0) states) (sym same) ∙ sym is
+
+-- the state at the place that it found
+pub found_among : (states : List SubState) (place : ℕ) (told id : SubId) → told ≡ id → Some place ≡ position (λ (s : SubState). s.tree.owner == told.0) states → IsAmong states place id.0 (get_or states place no_state)
+found_among states place told id same is = among states place id.0 no_state (found_at states (Some place) told id same is)
+
+pub found_inside : (states : List SubState) (place : ℕ) (told id : SubId) → told ≡ id → Some place ≡ position (λ (s : SubState). s.tree.owner == told.0) states → place < length states
+found_inside states place told id same is = inside states place id.0 (found_at states (Some place) told id same is)

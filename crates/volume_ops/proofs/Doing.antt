@@ -1,7 +1,8 @@
 -- An operation within one subvolume is one of the volume.
-use Rattle.std.proofs.Common.{◌≡◌, ◌∙◌, ◌≤◌, ◌+◌, ◌*◌, ℕ, Bool, true, false, cond, List, [], ◌∷◌, ◌++◌, Option, Some, None, refl, sym, ap, subst, arith, inl, inr}
+use Rattle.std.proofs.Common.{◌≡◌, ◌∙◌, ◌≤◌, ◌+◌, ◌*◌, ℕ, Bool, true, false, cond, List, [], ◌∷◌, ◌++◌, Option, Some, None, nat_eq, refl, sym, ap, subst, arith, inl, inr}
 use Rattle.std.specs.Prelude.{All, Contains, slice_index_or}
 use Rattle.std.specs.FinMap.{get, insert}
+use Rattle.std.proofs.lemmas.Bool.{cases_Bool, eqb-true}
 use Rattle.std.proofs.lemmas.Grind.{flat_map-append}
 use Rattle.std.proofs.lemmas.List.Elements.{All-append, All-cons, All-contains_itself, All-head, All-tail, Contains-append_cases, Contains-append_left, Contains-append_right}
 use Rattle.blk_base.specs.Trees.{NoneTwice}
@@ -12,8 +13,10 @@ use Rattle.block_table.specs.TreeIn.{block_at}
 use Rattle.flat_model.specs.declared.answer.Answer.{Answer}
 use Rattle.flat_model.specs.declared.answer.Answer.TheVariants.{NoEnt, Xdev}
 use Rattle.flat_model.specs.declared.op.Op.{Op}
-use Rattle.flat_model.specs.Needs.{removed_from}
+use Rattle.flat_model.specs.Needs.{least_need, need, removed_from}
 use Rattle.flat_model.specs.Operations.{Outcome}
+use Rattle.flat_model.specs.Refusal.{is_refusal}
+use Rattle.flat_model.specs.Running.{IsSoundVolume}
 use Rattle.flat_model.specs.Step.{AreNextIndexes, IsChoice, VolumeOutcome, indexes_of, is_within_sub, numbers_in, outcome_of, outcome_within, place_of, step, volume_unchanged, with_outcome}
 use Rattle.flat_model.specs.Volume.{RunNumbers, RunSub, RunVolume}
 use Rattle.flat_model.proofs.Steps.{numbers_there}
@@ -32,7 +35,8 @@ use Rattle.table_volume.proofs.SubEdits.{sub_more}
 use Rattle.table_volume.proofs.Volumes.{volume_given}
 use Rattle.volume_seal.specs.Sealed.{IsReady, states_reach}
 use Rattle.volume_seal.proofs.States.{operated_ready, ready_alike}
-use Rattle.volume_ops.specs.Done.{IsDone, most_in}
+use Rattle.volume_ops.specs.Done.{IsDone, most_in, most_of}
+use Rattle.volume_ops.proofs.Required.{answer_is, comes_to, needs_none}
 
 -- what takes so many blocks at most takes more at most
 pub operated_more : (old new : Table) (before after : SubState) (run : RunSub) (outcome : Outcome) (answer : Answer) (n m : ℕ) → n ≤ m → IsOperated old new before after run outcome answer n → IsOperated old new before after run outcome answer m
@@ -43,6 +47,15 @@ operated_more old new before after run outcome answer n m few h = record {
   choice = h.choice;
   refused = h.refused;
 }
+
+-- what leaves the table as it was takes nothing
+taken_at_most : (old new : Table) (asked most : ℕ) → (asked ≡ 0 → new ≡ old) → TakesAtMost old new most → TakesAtMost old new (cond (nat_eq asked 0) 0 most)
+taken_at_most old new asked most same taken = elim (cases_Bool (nat_eq asked 0)) [
+  | inl none ↦
+      subst (λ (b : Bool). TakesAtMost old new (cond b 0 most)) (sym none)
+      (subst (λ (table : Table). TakesAtMost old table 0) (sym (same (eqb-true asked 0 none))) (record { spare = omega arith; free = omega arith }))
+  | inr some ↦ subst (λ (b : Bool). TakesAtMost old new (cond b 0 most)) (sym some) taken
+]
 
 -- ---- nothing changes
 
@@ -64,6 +77,7 @@ module _ (table : Table) (states : List SubState) (run : RunVolume) (op : Op) (a
     given = subst (GiveVolume table states) (sym (ap (λ (o : VolumeOutcome). o.next) whole)) volume;
     taken = record { spare = omega arith; free = omega arith };
     refused = λ refusal. (refl, refl);
+    idle = λ none. (refl, refl);
     ready = λ fsid h. h;
     accounted = λ outside h. h;
   }
@@ -81,18 +95,13 @@ nowhere_done table states run op volume within none =
 
 -- ---- one subvolume changes
 
-comes_to : (run : RunVolume) (sub : RunSub) (op : Op) (indexes : List ℕ) → get run (place_of op).sub.0 ≡ Some sub → is_within_sub op ≡ true → step run op indexes ≡ with_outcome run (place_of op).sub.0 (outcome_of sub op indexes)
-unfolding step
-comes_to run sub op indexes there within =
-    ap (λ (b : Bool). cond b (outcome_within run op indexes) (volume_unchanged run Xdev)) within
-    ∙ ap (λ (o : Option RunSub). elim o [ None ↦ volume_unchanged run NoEnt | Some s ↦ with_outcome run (place_of op).sub.0 (outcome_of s op indexes) ]) there
-
 -- the state of the operation's subvolume gives what the run has under its number
 pub part_at : (table : Table) (lefts rights : List SubState) (state : SubState) (run : RunVolume) → GiveVolume table (lefts ++ state ∷ rights) run → GivesPart table run state
 part_at table lefts rights state run volume =
     All-head (GivesPart table run) state rights (All-right (GivesPart table run) lefts (state ∷ rights) volume.each)
 
 module _ (old new : Table) (lefts rights : List SubState) (before after : SubState) (run : RunVolume) (op : Op) (answer : Answer) (indexes : List ℕ) (volume : GiveVolume old (lefts ++ before ∷ rights) run) (owner : id_of before ≡ (place_of op).sub.0) (within : is_within_sub op ≡ true)
+    (idle : least_need op ≡ 0 → (new ≡ old) × (after ≡ before))
     (operated : (sub : RunSub) → GivesRun old before sub → IsOperated old new before after sub (outcome_of sub op indexes) answer (512 + 2 * removed_from sub.sub op)) where
   part : GivesPart old run before
   part = part_at old lefts rights before run volume
@@ -186,14 +195,25 @@ module _ (old new : Table) (lefts rights : List SubState) (before after : SubSta
       (All-cons (λ (s : SubState). IsReady new s.tree fsid) after rights (operated_ready old new before after part.sub (outcome_of part.sub op indexes).next (512 + 2 * removed_from part.sub.sub op) fsid part.gives done.edit done.gives (All-head (λ (s : SubState). IsReady old s.tree fsid) before rights behind))
       (others_ready fsid rights (All-tail (GivesPart old run) before rights (All-right (GivesPart old run) lefts (before ∷ rights) volume.each)) rights_apart (All-tail (λ (s : SubState). IsReady old s.tree fsid) before rights behind)))
 
+  -- ---- nothing changes where no block is needed
+  sound : IsSoundVolume run
+  sound = volume_sound old (lefts ++ before ∷ rights) run volume
+
+  same_here : need run op ≡ 0 → (new ≡ old) × (after ≡ before)
+  same_here none = elim (needs_none run op none) [
+    | inl refuses ↦ done.refused (ap is_refusal (done.said ∙ sym (answer_is run part.sub op indexes sound there within)) ∙ refuses)
+    | inr reads ↦ idle reads
+  ]
+
   pub within_done : IsDone old new (lefts ++ before ∷ rights) (lefts ++ after ∷ rights) run op answer
   within_done = record {
     indexes = indexes_of (step run op indexes).made;
     choice = shown_here.0;
     said = done.said ∙ sym (ap (λ (o : VolumeOutcome). o.answer) whole_here);
     given = subst (GiveVolume new (lefts ++ after ∷ rights)) (sym (ap (λ (o : VolumeOutcome). o.next) whole_here)) next_given;
-    taken = subst (λ (o : Option RunSub). TakesAtMost old new (most_in o op)) (sym there) done.edit.taken;
+    taken = taken_at_most old new (need run op) (most_of run op) (λ none. (same_here none).0) (subst (λ (o : Option RunSub). TakesAtMost old new (most_in o op)) (sym there) done.edit.taken);
     refused = λ refusal. let same = done.refused refusal in (same.0, ap (λ (s : SubState). lefts ++ s ∷ rights) same.1);
+    idle = λ none. let same = same_here none in (same.0, ap (λ (s : SubState). lefts ++ s ∷ rights) same.1);
     ready = all_ready;
     accounted = λ outside h. none_lost old new (sub_reach old before.tree) (sub_reach new after.tree) (outside ++ states_reach old (lefts ++ before ∷ rights)) (outside ++ states_reach new (lefts ++ after ∷ rights)) done.edit.edit h (stays outside)
         (λ at made. Contains-append_right outside (states_reach new (lefts ++ after ∷ rights)) at (to_middle at (Contains-append_left (sub_reach new after.tree) (states_reach new rights) at made)));

@@ -1,5 +1,5 @@
 mod Doing
 mod Among
 mod Placed
-mod Rooms
 mod Asking
+pub mod Required

@@ -1,11 +1,11 @@
 -- What an operation on a volume's trees comes to.
-use Rattle.std.specs.Prelude.{◌≡◌, ◌+◌, ◌*◌, ◌++◌, ℕ, List, All, Option, Some, None, true}
+use Rattle.std.specs.Prelude.{◌≡◌, ◌+◌, ◌*◌, ◌++◌, ℕ, List, All, Option, Some, None, true, cond, nat_eq}
 use Rattle.std.specs.FinMap.{get}
 use Rattle.block_table.specs.declared.tree.SubState.{SubState}
 use Rattle.block_table.specs.Table.{Table}
 use Rattle.flat_model.specs.declared.answer.Answer.{Answer}
 use Rattle.flat_model.specs.declared.op.Op.{Op}
-use Rattle.flat_model.specs.Needs.{removed_from}
+use Rattle.flat_model.specs.Needs.{need, removed_from}
 use Rattle.flat_model.specs.Refusal.{is_refusal}
 use Rattle.flat_model.specs.Step.{IsChoice, place_of, step}
 use Rattle.flat_model.specs.Volume.{RunSub, RunVolume}
@@ -23,15 +23,20 @@ most_in (Some sub) op = 512 + 2 * removed_from sub.sub op
 abbrev pub most_of : RunVolume → Op → ℕ
 most_of run op = most_in (get run (place_of op).sub.0) op
 
+-- the blocks and buffers that an operation has to have: none where it needs none, as it is refused or only reads (own)
+abbrev pub room_of : RunVolume → Op → ℕ
+room_of run op = cond (nat_eq (need run op) 0) 0 (most_of run op)
+
 -- The answer and the volume that the states then give are those of the definition, where the new names get these indexes, which
--- the operation leaves open; it takes so many blocks at most; a refusal leaves the table and the states as they were; trees that
--- may be sealed still may; and no block is lost (own).
+-- the operation leaves open; it takes so many blocks at most; a refusal, and an operation that needs no block, leave the table and
+-- the states as they were; trees that may be sealed still may; and no block is lost (own).
 pub record IsDone (old new : Table) (before after : List SubState) (run : RunVolume) (op : Op) (answer : Answer) : Type 0 where
   pub indexes : List ℕ
   pub choice : IsChoice run op indexes
   pub said : answer ≡ (step run op indexes).answer
   pub given : GiveVolume new after (step run op indexes).next
-  pub taken : TakesAtMost old new (most_of run op)
+  pub taken : TakesAtMost old new (room_of run op)
   pub refused : is_refusal answer ≡ true → (new ≡ old) × (after ≡ before)
+  pub idle : need run op ≡ 0 → (new ≡ old) × (after ≡ before)
   pub ready : (fsid : List ℕ) → All (λ state. IsReady old state.tree fsid) before → All (λ state. IsReady new state.tree fsid) after
   pub accounted : (outside : List ℕ) → AreAccounted old (outside ++ states_reach old before) → AreAccounted new (outside ++ states_reach new after)

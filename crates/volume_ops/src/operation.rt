@@ -4,10 +4,14 @@ ghost use Rattle.flat_model.specs.Step.{IsInLimits};
 ghost use Rattle.flat_model.specs.Volume.{RunVolume};
 ghost use Rattle.table_volume.specs.Operated.{HasRoom};
 ghost use Rattle.table_volume.specs.Running.{GiveVolume};
-ghost use Rattle.volume_ops.specs.Done.{IsDone, most_of};
+ghost use Rattle.volume_ops.specs.Done.{IsDone, room_of};
 
+use crate::judging::refusal;
+use crate::needs::least_need;
 use crate::places::{is_within_sub, place_among, sub_of};
-use crate::within::operate_within;
+use crate::reading::read_within;
+use crate::room::has_least_room;
+use crate::within::change_within;
 use blk_base::OutOfMemory;
 use block_table::{BlockTable, SubState};
 use flat_model::{Answer, Op};
@@ -15,7 +19,8 @@ use std::alloc::Global;
 
 /// Carries out an operation in its limits on the trees of a volume's subvolumes, and says its answer: Xdev where its places
 /// are of two subvolumes, and NoEnt where their subvolume isn't there ("vfs_create" and the other calls of fs/namei.c). It
-/// takes 512 blocks and buffers at most, and 2 more for each data block, inline extent and attribute item that it removes.
+/// takes 512 blocks and buffers at most, and 2 more for each data block, inline extent and attribute item that it removes; where
+/// it is refused or only reads it takes none.
 ///
 /// # Errors
 ///
@@ -27,7 +32,7 @@ pub fn operate(
     op: &Op,
 ) -> Result<Answer, OutOfMemory>
     requires limits { IsInLimits op.now }
-    requires given { (run : RunVolume) × GiveVolume table.old states.old run × HasRoom table.old (most_of run op.now) }
+    requires given { (run : RunVolume) × GiveVolume table.old states.old run × HasRoom table.old (room_of run op.now) }
     ensures done { (run : RunVolume) → GiveVolume table.old states.old run
         → IfOk result (λ answer. IsDone table.old table.new states.old states.new run op.now answer) }
     ensures err { OnErr result ((table.new ≡ table.old) × (states.new ≡ states.old)) }
@@ -38,5 +43,14 @@ pub fn operate(
     let Some(place) = place_among(states, sub_of(op)) else {
         return Ok(Answer::NoEnt);
     };
-    operate_within(alloc, table, &mut states[place], op)
+    if least_need(op) == 0 {
+        return read_within(alloc, table, &states[place], op);
+    }
+    if has_least_room(table) {
+        return Ok(change_within(table, &mut states[place], op));
+    }
+    match refusal(table, &states[place], op) {
+        Some(answer) => Ok(answer),
+        None => unreachable!(),
+    }
 }

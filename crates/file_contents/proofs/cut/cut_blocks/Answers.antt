@@ -5,12 +5,13 @@ use Rattle.flat_model.specs.Contents.{truncated}
 use Rattle.flat_model.specs.Needs.{blocks_past}
 use Rattle.file_extents.specs.Extents.{cleared, held_between, with_block}
 use Rattle.file_extents.proofs.Held.{content_edit_more, content_edits_join, nothing}
+use Rattle.file_extents.proofs.Runs.{hold_same}
 use Rattle.table_volume.specs.Gives.{data_in}
 use Rattle.tree_range.specs.Shape.{tree_items}
 use Rattle.file_contents.proofs.Counting.{held_cut}
 use Rattle.file_contents.proofs.Files.{cleared_is, cut_kept, grown_is, put_is}
 use Rattle.file_contents.proofs.Given.{held, holds, limits, low, offsets}
-use Rattle.file_contents.proofs.Puts.{cleared_hole, hold_same}
+use Rattle.file_contents.proofs.Puts.{cleared_hole}
 use Rattle.file_contents.proofs.Writing.{may_clear}
 use Rattle.file_contents.proofs.cut.cut_blocks.Goals as goal
 

@@ -35,10 +35,10 @@ put_blocks-requires-clause-may c =
     let g = c.requires.given in (
       cleared (get g.1.blocks) (c.args.offset / 4096) (end_block c.args.offset (length c.args.text.now)),
       g.1.blocks,
-      put_now c.args.table.now c.args.sub.now g.0 c.args.ino.0 g.1 g.2 c.args.offset c.args.text.now c.block_over-head.result c.block_over-tail.result c.clear_blocks.new.table c.clear_blocks.new.tree c.end_of-end.result c.end_of-end.ensures
+      put_now c.args.table.now c.args.sub.now g.0 c.args.ino.0 g.1 g.2 c.args.offset c.args.text.now c.edge-head.result c.edge-tail.result c.clear_blocks.new.table c.clear_blocks.new.tree c.end_of-end.result c.end_of-end.ensures
           (c.clear_blocks.ensures.contents (get g.1.blocks) (holds c.args.table.now c.args.sub.now g.0 c.args.ino.0 g.1 g.2))
-          (c.block_over-head.ensures g.1.blocks (c.file_block-old.ensures g.0.sub g.1 g.2.gives.gives g.2.there))
-          (c.block_over-tail.ensures g.1.blocks (c.file_block-old-2.ensures g.0.sub g.1 g.2.gives.gives g.2.there)),
+          (c.edge-head.ensures g.0.sub g.1 g.2.gives.gives g.2.there)
+          (c.edge-tail.ensures g.0.sub g.1 g.2.gives.gives g.2.there),
     )
 
 pub put_blocks-requires-clause-room : goal.put_blocks-requires-clause-room
@@ -73,7 +73,7 @@ returns-clause-contents c = λ run file is.
     let end = end_block c.args.offset (length c.args.text.now) in
     all_put c.put_blocks.new.table c.put_blocks.new.tree c.args.ino.0 (get file.blocks) (block_written file.blocks c.args.offset c.args.text.now) first end
     (c.put_blocks.ensures.contents (cleared (get file.blocks) first end) file.blocks
-    (put_now c.args.table.now c.args.sub.now run c.args.ino.0 file is c.args.offset c.args.text.now c.block_over-head.result c.block_over-tail.result c.clear_blocks.new.table c.clear_blocks.new.tree c.end_of-end.result c.end_of-end.ensures
+    (put_now c.args.table.now c.args.sub.now run c.args.ino.0 file is c.args.offset c.args.text.now c.edge-head.result c.edge-tail.result c.clear_blocks.new.table c.clear_blocks.new.tree c.end_of-end.result c.end_of-end.ensures
     (c.clear_blocks.ensures.contents (get file.blocks) (holds c.args.table.now c.args.sub.now run c.args.ino.0 file is))
-    (c.block_over-head.ensures file.blocks (c.file_block-old.ensures run.sub file is.gives.gives is.there))
-    (c.block_over-tail.ensures file.blocks (c.file_block-old-2.ensures run.sub file is.gives.gives is.there))))
+    (c.edge-head.ensures run.sub file is.gives.gives is.there)
+    (c.edge-tail.ensures run.sub file is.gives.gives is.there)))

@@ -9,17 +9,18 @@ use Rattle.flat_model.specs.Contents.{block_written, written}
 use Rattle.flat_model.specs.Records.{FileRecord}
 use Rattle.flat_model.specs.Volume.{RunSub}
 use Rattle.flat_model.proofs.Filled.{written_attributes}
+use Rattle.file_extents.specs.Extents.{with_blocks}
+use Rattle.file_extents.proofs.Runs.{hold_same}
 use Rattle.item_inode.specs.Inode.{inode_view}
 use Rattle.tree_range.specs.Shape.{tree_items, tree_reach}
 use Rattle.tree_range.proofs.Rise.{All-left}
 use Rattle.table_volume.specs.Gives.{data_in, tree_data}
 use Rattle.file_contents.specs.Given.{GivesFile, resized}
-use Rattle.file_contents.specs.Written.{end_block, first_block, with_blocks}
+use Rattle.file_contents.specs.Written.{end_block, first_block}
 use Rattle.file_contents.proofs.Counting.{held_most}
 use Rattle.file_contents.proofs.Files.{written_at, written_size}
 use Rattle.file_contents.proofs.Given.{holds}
 use Rattle.file_contents.proofs.Making.{IsRewrite, joined_stays, rewrite_makes}
-use Rattle.file_contents.proofs.Puts.{hold_same}
 use Rattle.file_contents.proofs.Rewriting.{few_blocks, rewritten, written_nbytes}
 use Rattle.file_contents.proofs.Writing.{has_value, touches, value_mode, value_nbytes, value_size, value_there}
 use Rattle.file_contents.proofs.write.write_file.Goals as goal

@@ -1,5 +1,5 @@
 -- The rows of truncate, one by one, and what is done where none holds.
-use Rattle.std.proofs.Common.{◌≡◌, ◌≤◌, ◌<◌, ◌+◌, ◌*◌, [], ◌∷◌, ℕ, nat_lt, refl, sym, ap, subst, ◌∙◌, arith}
+use Rattle.std.proofs.Common.{◌+◌, ◌*◌, [], ◌∷◌, ℕ, nat_lt, refl, sym, ap, subst, arith}
 use Rattle.flat_model.specs.declared.answer.Answer.TheVariants.{Plain, TooLarge}
 use Rattle.flat_model.specs.Contents.{most_file_bytes, truncated}
 use Rattle.flat_model.specs.Needs.{blocks_past}
@@ -8,7 +8,6 @@ use Rattle.flat_model.specs.Records.{FileInode, FileRecord}
 use Rattle.flat_model.specs.Walk.{record_at, walk}
 use Rattle.flat_model.proofs.Steps.{truncate_sound}
 use Rattle.table_volume.specs.Operated.{HasRoom, IsOperated}
-use Rattle.file_contents.specs.Given.{GivesFile}
 use Rattle.file_ops.specs.Room.{most_for}
 use Rattle.file_ops.proofs.Done.{operated}
 use Rattle.file_ops.proofs.Writes.{file_same, there, truncate_is, truncate_large, truncate_refused, truncate_room}

@@ -1,16 +1,14 @@
 -- The rows of write, one by one, and what is done where none holds.
-use Rattle.std.proofs.Common.{◌≡◌, ◌≤◌, ◌<◌, ◌+◌, ◌/◌, [], ◌∷◌, ℕ, Some, length, nat_lt, refl, sym, ap, subst, ◌∙◌, arith}
+use Rattle.std.proofs.Common.{◌≡◌, ◌≤◌, ◌+◌, [], ◌∷◌, ℕ, length, nat_lt, refl, sym, ap, subst, ◌∙◌, arith}
 use Rattle.std.proofs.lemmas.Bool.{true≢false}
 use Rattle.flat_model.specs.declared.answer.Answer.TheVariants.{Number, TooLarge}
 use Rattle.flat_model.specs.Contents.{most_file_bytes, written}
 use Rattle.flat_model.specs.Operations.{write}
 use Rattle.flat_model.specs.Records.{FileInode}
-use Rattle.flat_model.specs.Volume.{RunSub}
 use Rattle.flat_model.proofs.Maps.{some_same}
 use Rattle.flat_model.proofs.Steps.{write_sound}
 use Rattle.table_volume.proofs.SubEdits.{sub_more}
 use Rattle.tree_range.specs.Shape.{tree_items}
-use Rattle.file_contents.specs.Given.{GivesFile}
 use Rattle.file_contents.specs.Joined.{AreJoined}
 use Rattle.file_contents.specs.Written.{end_block, first_block}
 use Rattle.file_extents.specs.Extents.{HasRun}

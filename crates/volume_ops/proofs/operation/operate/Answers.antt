@@ -1,19 +1,15 @@
-use Rattle.std.proofs.Common.{◌≡◌, ◌∙◌, ◌+◌, ◌==◌, ℕ, List, [], ◌∷◌, Option, Some, sym, ap}
-use Rattle.std.specs.Prelude.{position, slice_index_or}
-use Rattle.blk_base.specs.declared.key.SubId.{SubId}
-use Rattle.block_table.specs.declared.tree.SubState.{SubState}
+-- An operation in its subvolume, with room for what removes nothing, or without, where it is refused or only reads.
+use Rattle.std.proofs.Common.{refl, sym, arith}
+use Rattle.std.specs.Prelude.{slice_index_or}
 use Rattle.flat_model.specs.Step.{place_of}
-use Rattle.volume_ops.proofs.Doing.{across_done, nowhere_done}
-use Rattle.volume_ops.proofs.Among.{among, inside, nowhere}
-use Rattle.volume_ops.proofs.Placed.{IsAsked, asked, placed_done, placed_err}
+use Rattle.table_volume.proofs.States.{volume_sound}
+use Rattle.std.proofs.lemmas.Bool.{true≢false}
+use Rattle.volume_ops.specs.Needs.{next_indexes}
+use Rattle.volume_ops.proofs.Doing.{across_done, nowhere_done, unchanged_done}
+use Rattle.volume_ops.proofs.Among.{found_among, found_at, found_inside, no_state, nowhere}
+use Rattle.volume_ops.proofs.Placed.{one_done, placed, placed_read}
+use Rattle.volume_ops.proofs.Required.{most_is, need_is, reads_only, refused_step, room_within}
 use Rattle.volume_ops.proofs.operation.operate.Goals as goal
-
-abbrev no_state : SubState
-no_state = record { tree = record { root = record { 0 = 0 }; level = 0; owner = 0 }; next_ino = 0; next_index = 0; running = 0 }
-
--- the subvolume's number, as the search was told it
-found_at : (states : List SubState) (place : Option ℕ) (told : SubId) (id : SubId) → told ≡ id → place ≡ position (λ (s : SubState). s.tree.owner == told.0) states → position (λ (s : SubState). s.tree.owner == id.0) states ≡ place
-found_at states place told id same is = ap (λ (i : SubId). position (λ (s : SubState). s.tree.owner == i.0) states) (sym same) ∙ sym is
 
 pub returns-then-not-is_within_sub-clause-done : goal.returns-then-not-is_within_sub-clause-done
 returns-then-not-is_within_sub-clause-done c = λ run volume.
@@ -24,22 +20,64 @@ returns-in_default-clause-done c = λ run volume.
     nowhere_done c.args.table.now c.args.states.now run c.args.op.now volume (sym c.if-not-is_within_sub.ensures)
     (nowhere c.args.table.now c.args.states.now run (place_of c.args.op.now).sub.0 volume (found_at c.args.states.now _ c.sub_of.result (place_of c.args.op.now).sub c.sub_of.ensures c.in_default.ensures))
 
-pub operate_within-requires-clause-given : goal.operate_within-requires-clause-given
-operate_within-requires-clause-given c =
-    let is = found_at c.args.states.now (Some c.in-Some.place) c.sub_of.result (place_of c.args.op.now).sub c.sub_of.ensures c.in-Some.ensures in
-    let at = among c.args.states.now c.in-Some.place (place_of c.args.op.now).sub.0 no_state is in
-    let given : IsAsked c.args.table.now (slice_index_or c.args.states.now c.in-Some.place no_state) c.args.op.now = asked c.args.table.now c.args.states.now c.in-Some.place (slice_index_or c.args.states.now c.in-Some.place no_state) c.requires.given.0 c.args.op.now c.requires.given.1 at c.requires.given.2 in
-    (given.sub, given.gives, given.room)
+pub change_within-requires-clause-given : goal.change_within-requires-clause-given
+change_within-requires-clause-given c =
+    let run = c.requires.given.0 in
+    let volume = c.requires.given.1 in
+    let state = slice_index_or c.args.states.now c.in-Some.place no_state in
+    let at = found_among c.args.states.now c.in-Some.place c.sub_of.result (place_of c.args.op.now).sub c.sub_of.ensures c.in-Some.ensures in
+    let here = placed c.args.table.now c.args.states.now c.in-Some.place state run c.args.op.now volume at in
+    let sound = volume_sound c.args.table.now c.args.states.now run volume in
+    let within = sym c.if-not-is_within_sub.ensures in
+    let few = c.if-has_least_room.ensures.0 refl in
+    (here.sub, here.gives, room_within c.args.table.now run here.sub c.args.op.now (next_indexes state) (need_is run here.sub c.args.op.now (next_indexes state) sound here.there within) (most_is run here.sub c.args.op.now (next_indexes state) sound here.there within) few c.requires.given.2)
+
+pub returns-then-has_least_room-clause-done : goal.returns-then-has_least_room-clause-done
+returns-then-has_least_room-clause-done c = λ run volume.
+    let state = slice_index_or c.args.states.now c.in-Some.place no_state in
+    let at = found_among c.args.states.now c.in-Some.place c.sub_of.result (place_of c.args.op.now).sub c.sub_of.ensures c.in-Some.ensures in
+    one_done c.args.table.now c.change_within.new.table c.args.states.now c.in-Some.place state c.change_within.new.sub run c.args.op.now (next_indexes state) volume at
+    (found_inside c.args.states.now c.in-Some.place c.sub_of.result (place_of c.args.op.now).sub c.sub_of.ensures c.in-Some.ensures) (sym c.if-not-is_within_sub.ensures) (λ reads. let value = c.least_need.ensures.value in let some = c.if-least_need-eq0.false in absurd (omega (arith, value, reads, some))) c.change_within.result c.change_within.ensures
+
+pub refusal-requires-clause-given : goal.refusal-requires-clause-given
+refusal-requires-clause-given c =
+    let at = found_among c.args.states.now c.in-Some.place c.sub_of.result (place_of c.args.op.now).sub c.sub_of.ensures c.in-Some.ensures in
+    let here = placed c.args.table.now c.args.states.now c.in-Some.place (slice_index_or c.args.states.now c.in-Some.place no_state) c.requires.given.0 c.args.op.now c.requires.given.1 at in
+    (here.sub, here.gives)
+
+pub read_within-requires-clause-given : goal.read_within-requires-clause-given
+read_within-requires-clause-given c =
+    let at = found_among c.args.states.now c.in-Some.place c.sub_of.result (place_of c.args.op.now).sub c.sub_of.ensures c.in-Some.ensures in
+    let here = placed c.args.table.now c.args.states.now c.in-Some.place (slice_index_or c.args.states.now c.in-Some.place no_state) c.requires.given.0 c.args.op.now c.requires.given.1 at in
+    (here.sub, here.gives)
 
 pub returns-clause-done : goal.returns-clause-done
 returns-clause-done c = λ run volume.
-    let is = found_at c.args.states.now (Some c.in-Some.place) c.sub_of.result (place_of c.args.op.now).sub c.sub_of.ensures c.in-Some.ensures in
-    let at = among c.args.states.now c.in-Some.place (place_of c.args.op.now).sub.0 no_state is in
-    placed_done c.args.table.now c.operate_within.new.table c.args.states.now c.in-Some.place (slice_index_or c.args.states.now c.in-Some.place no_state) c.operate_within.new.sub run c.args.op.now ((slice_index_or c.args.states.now c.in-Some.place no_state).next_index ∷ ((slice_index_or c.args.states.now c.in-Some.place no_state).next_index + 1) ∷ []) volume at
-    (inside c.args.states.now c.in-Some.place (place_of c.args.op.now).sub.0 is) (sym c.if-not-is_within_sub.ensures) c.operate_within.result c.operate_within.ensures.done
+    let state = slice_index_or c.args.states.now c.in-Some.place no_state in
+    let at = found_among c.args.states.now c.in-Some.place c.sub_of.result (place_of c.args.op.now).sub c.sub_of.ensures c.in-Some.ensures in
+    let here = placed c.args.table.now c.args.states.now c.in-Some.place state run c.args.op.now volume at in
+    let sound = volume_sound c.args.table.now c.args.states.now run volume in
+    unchanged_done c.args.table.now c.args.states.now run c.args.op.now c.in-Some-refusal.answer volume
+    (refused_step run here.sub c.args.op.now (next_indexes state) sound here.there (sym c.if-not-is_within_sub.ensures) c.in-Some-refusal.answer (c.in-Some-refusal.ensures here.sub here.gives))
 
-pub returns-clause-err : goal.returns-clause-err
-returns-clause-err c =
-    let is = found_at c.args.states.now (Some c.in-Some.place) c.sub_of.result (place_of c.args.op.now).sub c.sub_of.ensures c.in-Some.ensures in
-    let at = among c.args.states.now c.in-Some.place (place_of c.args.op.now).sub.0 no_state is in
-    placed_err c.args.table.now c.operate_within.new.table c.args.states.now c.in-Some.place (place_of c.args.op.now).sub.0 (slice_index_or c.args.states.now c.in-Some.place no_state) c.operate_within.new.sub c.operate_within.result at (inside c.args.states.now c.in-Some.place (place_of c.args.op.now).sub.0 is) c.operate_within.ensures.err
+pub returns-then-least_need-eq0-clause-done : goal.returns-then-least_need-eq0-clause-done
+returns-then-least_need-eq0-clause-done c = λ run volume.
+    let state = slice_index_or c.args.states.now c.in-Some.place no_state in
+    let at = found_among c.args.states.now c.in-Some.place c.sub_of.result (place_of c.args.op.now).sub c.sub_of.ensures c.in-Some.ensures in
+    placed_read c.args.table.now c.args.states.now c.in-Some.place state run c.args.op.now (next_indexes state) volume at
+    (found_inside c.args.states.now c.in-Some.place c.sub_of.result (place_of c.args.op.now).sub c.sub_of.ensures c.in-Some.ensures) (sym c.if-not-is_within_sub.ensures) c.read_within.result c.read_within.ensures
+
+pub unreachable-requires : goal.unreachable-requires
+unreachable-requires c =
+    let run = c.requires.given.0 in
+    let volume = c.requires.given.1 in
+    let state = slice_index_or c.args.states.now c.in-Some.place no_state in
+    let at = found_among c.args.states.now c.in-Some.place c.sub_of.result (place_of c.args.op.now).sub c.sub_of.ensures c.in-Some.ensures in
+    let here = placed c.args.table.now c.args.states.now c.in-Some.place state run c.args.op.now volume at in
+    let sound = volume_sound c.args.table.now c.args.states.now run volume in
+    let within = sym c.if-not-is_within_sub.ensures in
+    let value = c.least_need.ensures.value in
+    let some = c.if-least_need-eq0.false in
+    let reads = reads_only c.args.table.now run here.sub c.args.op.now (next_indexes state) (need_is run here.sub c.args.op.now (next_indexes state) sound here.there within) (most_is run here.sub c.args.op.now (next_indexes state) sound here.there within)
+    (λ room. true≢false (sym (c.if-has_least_room.ensures.1 room))) c.requires.given.2 (c.in-None.ensures here.sub here.gives) in
+    omega (arith, value, some, reads)

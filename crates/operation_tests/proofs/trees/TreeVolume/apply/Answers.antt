@@ -1,21 +1,26 @@
 -- An operation leaves states that give the next volume.
-use Rattle.std.proofs.Common.{◌≡◌, ◌++◌, ◌∙◌, List, length, take, drop, sym, ap, subst, refl, arith}
+use Rattle.std.proofs.Common.{◌≡◌, ◌≤◌, ◌∙◌, List, length, sym, ap, subst, arith}
 use Rattle.block_table.specs.declared.tree.SubState.{SubState}
-use Rattle.block_table.specs.Table.{Table}
+use Rattle.block_table.specs.Table.{Table, free_blocks}
+use Rattle.flat_model.specs.Needs.{need}
 use Rattle.flat_model.specs.Step.{step}
 use Rattle.table_volume.specs.Running.{GiveVolume}
+use Rattle.volume_ops.proofs.Required.{room_enough}
 use Rattle.operation_tests.proofs.States.{back}
 use Rattle.operation_tests.proofs.trees.TreeVolume.apply.Goals as goal
 
-pub has_room-requires : goal.has_room-requires
-has_room-requires c = record { given = (c.self.invariant.0, subst (λ (l : List SubState). GiveVolume c.self.inside.table l c.self.invariant.0) (sym c.deref.ensures.value) c.self.invariant.1) }
+pub need-need-requires-clause-given : goal.need-need-requires-clause-given
+need-need-requires-clause-given c = (c.self.invariant.0, subst (λ (l : List SubState). GiveVolume c.self.inside.table l c.self.invariant.0) (sym c.deref.ensures.value) c.self.invariant.1)
 
 pub operate-requires-clause-given : goal.operate-requires-clause-given
 operate-requires-clause-given c =
     let run = c.self.invariant.0 in
     let seen : GiveVolume c.self.inside.table c.deref.result.now run = subst (λ (l : List SubState). GiveVolume c.self.inside.table l run) (sym c.deref.ensures.value) c.self.invariant.1 in
     let lent : GiveVolume c.self.inside.table c.deref_mut.result.now run = subst (λ (l : List SubState). GiveVolume c.self.inside.table l run) (sym c.deref_mut.ensures.value) c.self.invariant.1 in
-    (run, lent, (c.if-not-has_room.ensures run seen).0 refl)
+    let is : c.need-need.result ≡ need run c.args.op.now = c.need-need.ensures run seen in
+    let free : need run c.args.op.now ≤ free_blocks c.self.inside.table = omega (arith, is, c.if-from-need.false, c.from.ensures, c.free_count-free.ensures) in
+    let spare : need run c.args.op.now ≤ c.self.inside.table.spare = omega (arith, is, c.if-from-need-2.false, c.from-else-from-need.ensures, c.spare-spare.ensures) in
+    (run, lent, room_enough c.self.inside.table run c.args.op.now spare free)
 
 pub invariant_of-self : goal.invariant_of-self
 invariant_of-self c =

@@ -1,0 +1,4 @@
+pub mod Behind
+pub mod Wanting
+pub mod Turns
+pub mod Leaving

@@ -1,0 +1,4 @@
+pub mod Order
+pub mod Quiet
+pub mod Known
+pub mod Behind

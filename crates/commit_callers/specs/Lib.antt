@@ -1,0 +1,4 @@
+pub mod Order
+pub mod Wants
+pub mod Covered
+pub mod GoWith

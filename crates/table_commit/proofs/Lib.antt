@@ -1,0 +1,4 @@
+pub mod Settled
+pub mod Addresses
+pub mod Gone
+mod Below
