@@ -15,7 +15,7 @@ use volume_format::RootItem;
 
 /// Makes a tree of at most 16 root items, by rising keys: one leaf where they are eight or fewer, and else two leaves
 /// and a node, none of which is committed yet ("ROOT_ITEM" of the on-disk format). Its blocks name `owner` as their
-/// owner once they are sealed. It takes three blocks and buffers at most.
+/// owner once they are sealed. It takes a buffer for each of its blocks, three at most.
 pub fn root_tree(table: &mut BlockTable, owner: u64, roots: &[(Key, RootItem)]) -> Tree
     requires few { length roots.now ≤ 16 }
     requires rise { ItemsRise (root_entries roots.now) }
@@ -26,7 +26,8 @@ pub fn root_tree(table: &mut BlockTable, owner: u64, roots: &[(Key, RootItem)]) 
     ensures owner { result.owner ≡ owner }
     ensures edit { IsEdit table.old table.new [] (tree_reach table.new result) }
     ensures few { length (tree_reach table.new result) ≤ 3 }
-    ensures taken { TakesAtMost table.old table.new 3 }
+    ensures small { length roots.now ≤ 8 → length (tree_reach table.new result) ≡ 1 }
+    ensures taken { TakesAtMost table.old table.new (length (tree_reach table.new result)) }
 {
     if roots.len() <= ROOTS_IN_LEAF {
         return Tree {

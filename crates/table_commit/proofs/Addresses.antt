@@ -146,7 +146,7 @@ noted_once table = once_from 0 table.slots
 
 pub noted_ready : (table : Table) → NoneOut table → AreReleasable table (addresses_of (let_go_addresses table))
 noted_ready table none =
-    let each : All (λ (at : Addr). IsReleasable (block_at table at.0)) (let_go_addresses table) = All-weaker (Contains (let_go_addresses table)) (λ (at : Addr). IsReleasable (block_at table at.0)) (λ at there. record { let_go = gone_state table at there; back = none_out_at table none at.0 }) (let_go_addresses table) (All-contains_itself (let_go_addresses table)) in
+    let each : All (λ (at : Addr). IsReleasable (block_at table at.0)) (let_go_addresses table) = All-weaker (Contains (let_go_addresses table)) (λ (at : Addr). IsReleasable (block_at table at.0)) (λ at there. record { let_go = gone_state table at there; back = (none_out_at table none at.0).let_go (gone_state table at there) }) (let_go_addresses table) (All-contains_itself (let_go_addresses table)) in
     All-map (λ (at : ℕ). IsReleasable (block_at table at)) (λ (at : Addr). at.0) (let_go_addresses table) each
 
 -- as Sealed blocks are settled, such blocks stay as they are

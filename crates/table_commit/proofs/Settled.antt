@@ -16,7 +16,7 @@ use Rattle.block_table.specs.Table.{Table, slot_at, free_blocks, free_from, used
 use Rattle.block_table.specs.TreeIn.{IsTaken, block_at}
 use Rattle.block_table.proofs.Kept.{taken_state}
 use Rattle.tree_frame.specs.Frame.{AreReadable}
-use Rattle.table_commit.specs.Commit.{NoneOut, at_number, is_sealed, settled, unsealed, with_each}
+use Rattle.table_commit.specs.Commit.{IsBack, NoneOut, at_number, is_sealed, settled, unsealed, with_each}
 
 -- ---- any change that leaves a Free block Free
 
@@ -149,14 +149,14 @@ unsealed_readable table reach taken = each_readable unsealed refl (changed_keeps
 
 -- ---- no list has a block
 
-out_where : (b : Bool) (slots : List BlockSlot) (i : ℕ) → All (λ (slot : BlockSlot). slot.out ≡ false) slots → (if b then slice_index_or slots i free_slot else free_slot).out ≡ false
-out_where false slots i none = refl
+out_where : (b : Bool) (slots : List BlockSlot) (i : ℕ) → All IsBack slots → IsBack (if b then slice_index_or slots i free_slot else free_slot)
+out_where false slots i none = record { sealed = λ _. refl; let_go = λ _. refl }
 out_where true slots i none = elim (cases_lt i (length slots)) [
-  | inl inside ↦ All-get_or (λ (slot : BlockSlot). slot.out ≡ false) slots i free_slot inside none
-  | inr past ↦ ap (λ (slot : BlockSlot). slot.out) (get_or_past slots i free_slot past)
+  | inl inside ↦ All-get_or IsBack slots i free_slot inside none
+  | inr past ↦ subst IsBack (sym (get_or_past slots i free_slot past)) (record { sealed = λ _. refl; let_go = λ _. refl })
 ]
 
-pub none_out_at : (table : Table) → NoneOut table → (at : ℕ) → (block_at table at).out ≡ false
+pub none_out_at : (table : Table) → NoneOut table → (at : ℕ) → IsBack (block_at table at)
 none_out_at table none at = out_where (at % 4096 == 0) table.slots (at / 4096) none
 
 pub block_of : (table : Table) (number : ℕ) → block_at table (number * 4096) ≡ slice_index_or table.slots number free_slot
@@ -166,9 +166,9 @@ block_of table number =
     ap (λ (b : Bool). if b then slice_index_or table.slots (number * 4096 / 4096) free_slot else free_slot) (eq-eqb (number * 4096 % 4096) 0 whole)
     ∙ ap (λ (i : ℕ). slice_index_or table.slots i free_slot) same
 
-pub none_out_from : (table : Table) → ((at : ℕ) → (block_at table at).out ≡ false) → NoneOut table
+pub none_out_from : (table : Table) → ((at : ℕ) → IsBack (block_at table at)) → NoneOut table
 none_out_from table each =
-    All-from_get_or (λ (slot : BlockSlot). slot.out ≡ false) table.slots free_slot (λ i inside. ap (λ (slot : BlockSlot). slot.out) (sym (block_of table i)) ∙ each (i * 4096))
+    All-from_get_or IsBack table.slots free_slot (λ i inside. subst IsBack (block_of table i) (each (i * 4096)))
 
 -- ---- the blocks in front of a number are changed, and the others aren't yet
 
@@ -215,9 +215,9 @@ module _ (change : BlockSlot → BlockSlot) (table : Table) (number : ℕ) (insi
     here_is = ap (λ (t : Table). slot_at t at) h ∙ ap (slot_at (so_far change table number)) is ∙ so_far_here
 
     -- the block with this number is as it was
-    pub step_out : NoneOut table → (slot_at now at).out ≡ false
+    pub step_out : NoneOut table → IsBack (slot_at now at)
     step_out none =
-        ap (λ (slot : BlockSlot). slot.out) here_is ∙ All-get_or (λ (slot : BlockSlot). slot.out ≡ false) table.slots number free_slot inside none
+        subst IsBack (sym here_is) (All-get_or IsBack table.slots number free_slot inside none)
 
     -- and it is changed
     pub step : (new : Table) → new ≡ with_slot now at (change (slot_at now at)) → new ≡ so_far change table (number + 1)

@@ -31,9 +31,14 @@ unsealed slot = if is_sealed slot.state then record slot { state = Dirty } else 
 abbrev pub with_each : (BlockSlot → BlockSlot) → Table → Table
 with_each change table = record table { slots = map change table.slots }
 
+-- no list that is out has the block, where it is one that a list may have (own)
+pub record IsBack (slot : BlockSlot) : Type 0 where
+  pub sealed : slot.state ≡ Sealed → slot.out ≡ false
+  pub let_go : slot.state ≡ LetGo → slot.out ≡ false
+
 -- no list that is out has a block of the table (own)
 abbrev pub NoneOut : Table → Type 0
-NoneOut table = All (λ (slot : BlockSlot). slot.out ≡ false) table.slots
+NoneOut table = All IsBack table.slots
 
 -- ---- blocks that were let go, by their byte addresses
 

@@ -1,7 +1,7 @@
 //! Sealed blocks, once it is known whether their batch is on the device.
 ghost use Rattle.std.specs.Prelude.{◌≡◌, ◌%◌, false};
 ghost use Rattle.block_table.specs.Table.{slot_at, with_slot};
-ghost use Rattle.table_commit.specs.Commit.{NoneOut, settled, unsealed, with_each};
+ghost use Rattle.table_commit.specs.Commit.{IsBack, NoneOut, settled, unsealed, with_each};
 
 use crate::number::address_of;
 use blk_base::Addr;
@@ -10,7 +10,7 @@ use block_table::{BlockTable, SlotState};
 /// Makes a block Live where it is Sealed.
 fn settle_block(table: &mut BlockTable, at: Addr)
     requires aligned { at.0 % 4096 ≡ 0 }
-    requires back { (slot_at table.old at).out ≡ false }
+    requires back { IsBack (slot_at table.old at) }
     ensures { table.new ≡ with_slot table.old at (settled (slot_at table.old at)) }
 {
     if table.state(at) == SlotState::Sealed {
@@ -21,7 +21,7 @@ fn settle_block(table: &mut BlockTable, at: Addr)
 /// Makes a block Dirty where it is Sealed.
 fn unseal_block(table: &mut BlockTable, at: Addr)
     requires aligned { at.0 % 4096 ≡ 0 }
-    requires back { (slot_at table.old at).out ≡ false }
+    requires back { IsBack (slot_at table.old at) }
     ensures { table.new ≡ with_slot table.old at (unsealed (slot_at table.old at)) }
 {
     if table.state(at) == SlotState::Sealed {

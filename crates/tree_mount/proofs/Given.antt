@@ -1,5 +1,5 @@
 -- What the states of trees give whose checks were all Ok, whatever the disk tells.
-use Rattle.std.proofs.Common.{◌≡◌, ◌≢◌, ◌≤◌, ◌<◌, ◌+◌, ◌++◌, ◌⊎◌, ℕ, zero, suc, true, List, [], ◌∷◌, length, map, Contains, All, IsPermutation, Some, Less, nat_cmp, refl, sym, ap, subst, ◌∙◌, arith, inl, inr, append_assoc}
+use Rattle.std.proofs.Common.{◌≡◌, ◌≢◌, ◌≤◌, ◌<◌, ◌+◌, ◌++◌, ◌/◌, ◌%◌, ◌⊎◌, ℕ, zero, suc, true, List, [], ◌∷◌, length, map, Contains, All, IsPermutation, Some, Less, nat_cmp, refl, sym, ap, subst, ◌∙◌, arith, inl, inr, append_assoc}
 use Rattle.std.specs.List.{AllByRecursion, flat_map, range_with_len}
 use Rattle.std.specs.List.Sorted.{IsStrictlyIncreasing, IsStrictlySortedBy}
 use Rattle.std.specs.Cmp.{nat_cmp_is, nat_cmp_total}
@@ -17,7 +17,11 @@ use Rattle.block_table.specs.declared.state.SlotState.{SlotState}
 use Rattle.block_table.specs.declared.state.SlotState.TheVariants.{Free, Dirty, Sealed, Live, LetGo}
 use Rattle.block_table.specs.declared.tree.SubState.{SubState}
 use Rattle.block_table.specs.declared.tree.Tree.{Tree}
-use Rattle.block_table.specs.Slot.{BlockSlot}
+use Rattle.block_table.specs.Slot.{BlockSlot, free_slot}
+use Rattle.blk_base.proofs.Members.{is_in}
+use Rattle.std.specs.Prelude.{false, replicate, slice_index_or}
+use Rattle.std.proofs.lemmas.Bool.{cases_eq}
+use Rattle.tree_load.proofs.Taken.{block_aligned, block_apart}
 use Rattle.block_table.specs.Table.{Table, empty_table, free_blocks}
 use Rattle.block_table.specs.TreeIn.{IsSealedTree, IsTaken, block_at}
 use Rattle.flat_model.specs.Coherent.{IsCoherent, IsCoherentVolume}
@@ -159,6 +163,18 @@ free_or Dirty h = inr (h (λ e. cc))
 free_or Sealed h = inr (h (λ e. cc))
 free_or LetGo h = inr (h (λ e. cc))
 
+-- an empty table has Free blocks alone
+nothing_at : (count place : ℕ) → slice_index_or (replicate count free_slot) place free_slot ≡ free_slot
+nothing_at zero place = refl
+nothing_at (suc count) zero = refl
+nothing_at (suc count) (suc place) = nothing_at count place
+
+nothing_there : (blocks at : ℕ) → block_at (empty_table blocks) at ≡ free_slot
+nothing_there blocks at = elim (cases_eq (at % 4096) 0) [
+  | inl whole ↦ block_aligned (empty_table blocks) at whole ∙ nothing_at blocks (at / 4096)
+  | inr part ↦ block_apart (empty_table blocks) at part
+]
+
 module _ (super : SuperValue) (mid new : Table) (wants : List Want) (loaded : AreLoaded (empty_table super.blocks) mid (root_want super ∷ wants)) (whole : AreWhole mid new wants) where
   kept : (want : Want) → Contains (root_want super ∷ wants) want → IsKept mid new want
   kept want c = kept_by true mid new want (wants_data mid wants) whole.load (loaded.each want c)
@@ -240,6 +256,16 @@ module _ (super : SuperValue) (mid new : Table) (wants : List Want) (loaded : Ar
 
   pub accounted : AreAccounted new each_reach
   accounted at not_free not_gone = Contains-permutation all each_reach at (IsPermutation-sym each_reach all moved) ((all_taken at).1 not_free)
+
+  -- no list has a block
+  pub none_out : (at : ℕ) → (block_at new at).out ≡ false
+  none_out at = elim (is_in (wants_data mid wants) at) [
+    | inl datum ↦ ap (λ (slot : BlockSlot). slot.out) (whole.load.live at datum)
+    | inr no_datum ↦ ap (λ (slot : BlockSlot). slot.out) (whole.load.others at no_datum) ∙ elim (is_in (wants_reach mid (root_want super ∷ wants)) at) [
+      | inl tree ↦ ap (λ (slot : BlockSlot). slot.out) (loaded.load.live at tree)
+      | inr no_tree ↦ ap (λ (slot : BlockSlot). slot.out) (loaded.load.others at no_tree ∙ nothing_there super.blocks at)
+    ]
+  ]
 
   pub free_or_live : (at : ℕ) → ((block_at new at).state ≡ Free) ⊎ ((block_at new at).state ≡ Live)
   free_or_live at = free_or (block_at new at).state (λ used. live at ((all_taken at).1 used))

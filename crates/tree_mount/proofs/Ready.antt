@@ -25,7 +25,7 @@ use Rattle.tree_mount.specs.declared.mounted.Mounted.{Mounted}
 use Rattle.tree_mount.specs.Mounted.{AreSubWants, AreWhole, IsMountedAs, IsReadyMount, IsRunState, LeadsToVolume, mount_reach}
 use Rattle.tree_mount.specs.Roots.{AreRootsRead}
 use Rattle.tree_mount.specs.Trees.{AreLoaded, reach_of, wants_data, wants_reach}
-use Rattle.tree_mount.proofs.Given.{accounted, all, each_long, each_once, each_reach, free_or_live, given_volume, ids, lists, long, reach_is, root_stands, sealed, size, state_ready, state_running, subs_reach, used, volume_by, volume_coherent}
+use Rattle.tree_mount.proofs.Given.{accounted, all, each_long, each_once, each_reach, free_or_live, none_out, given_volume, ids, lists, long, reach_is, root_stands, sealed, size, state_ready, state_running, subs_reach, used, volume_by, volume_coherent}
 use Rattle.tree_mount.proofs.Standing.{as_mounted}
 
 pub subs_by : (super : SuperValue) (items : List Rattle.blk_base.specs.Leaf.Item) (wants : List Want) → AreRootsRead super items wants → AreSubWants super wants
@@ -67,6 +67,7 @@ module _ (m : Mounted) (mid : Table) (wants : List Want) (loaded : AreLoaded (em
     once = subst NoneTwice (sym reach) (each_once s mid m.table wants loaded whole);
     accounted = subst (AreAccounted m.table) (sym reach) (accounted s mid m.table wants loaded whole);
     live = free_or_live s mid m.table wants loaded whole;
+    back = none_out s mid m.table wants loaded whole;
     lists = lists s mid m.table wants loaded whole;
     room = subst (λ (n : ℕ). mount_need ≤ free_of m.superblock.blocks n) (sym (ap length reach ∙ each_long s mid m.table wants loaded whole)) enough;
   }

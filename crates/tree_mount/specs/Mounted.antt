@@ -1,5 +1,5 @@
 -- What a mount answers, and what is known of the volume while it is read.
-use Rattle.std.specs.Prelude.{◌≡◌, ◌⊎◌, ◌≤◌, ◌++◌, ℕ, List, ◌∷◌, length, map, All, Contains, true, None, Ok}
+use Rattle.std.specs.Prelude.{◌≡◌, ◌⊎◌, ◌≤◌, ◌++◌, ℕ, false, List, ◌∷◌, length, map, All, Contains, true, None, Ok}
 use Rattle.blk_base.specs.declared.format.TheConstants.{ROOT_TREE}
 use Rattle.blk_base.specs.declared.key.Want.{Want}
 use Rattle.blk_base.specs.Superblock.{SuperValue}
@@ -68,6 +68,7 @@ pub record IsReadyMount (m : Mounted) (count : ℕ) : Type 0 where
   pub once : NoneTwice (mount_reach m)
   pub accounted : AreAccounted m.table (mount_reach m)
   pub live : (at : ℕ) → ((block_at m.table at).state ≡ Free) ⊎ ((block_at m.table at).state ≡ Live)
+  pub back : (at : ℕ) → (block_at m.table at).out ≡ false
   pub lists : m.table.lists ≡ 34
   pub room : mount_need ≤ free_of m.superblock.blocks (length (mount_reach m))
 

@@ -4,12 +4,12 @@ use Rattle.std.specs.Prelude.{All, Contains, slice_index_or}
 use Rattle.std.specs.FinMap.{get, insert}
 use Rattle.std.proofs.lemmas.Bool.{cases_Bool, eqb-true}
 use Rattle.std.proofs.lemmas.Grind.{flat_map-append}
-use Rattle.std.proofs.lemmas.List.Elements.{All-append, All-cons, All-contains_itself, All-head, All-tail, Contains-append_cases, Contains-append_left, Contains-append_right}
+use Rattle.std.proofs.lemmas.List.Elements.{All-append, All-cons, All-contains, All-contains_itself, All-head, All-tail, Contains-append_cases, Contains-append_left, Contains-append_right}
 use Rattle.blk_base.specs.Trees.{NoneTwice}
 use Rattle.blk_base.proofs.Members.{once_apart, once_right}
 use Rattle.block_table.specs.declared.tree.SubState.{SubState}
 use Rattle.block_table.specs.Table.{Table}
-use Rattle.block_table.specs.TreeIn.{block_at}
+use Rattle.block_table.specs.TreeIn.{IsTaken, block_at}
 use Rattle.flat_model.specs.declared.answer.Answer.{Answer}
 use Rattle.flat_model.specs.declared.answer.Answer.TheVariants.{NoEnt, Xdev}
 use Rattle.flat_model.specs.declared.op.Op.{Op}
@@ -23,7 +23,9 @@ use Rattle.flat_model.proofs.Steps.{numbers_there}
 use Rattle.flat_laws.proofs.Shown.{step_shown}
 use Rattle.tree_range.specs.Shape.{AreAlike, tree_reach}
 use Rattle.tree_range.proofs.Rise.{All-left, All-right}
-use Rattle.tree_frame.specs.Frame.{TakesAtMost}
+use Rattle.tree_frame.specs.Frame.{IsEdit, TakesAtMost}
+use Rattle.tree_frame.proofs.Among.{edit_among}
+use Rattle.tree_frame.proofs.EditLaws.{nothing_is_an_edit}
 use Rattle.tree_frame.proofs.Reading.{flat_map_same}
 use Rattle.volume_image.proofs.Members.{flat_map_in}
 use Rattle.table_volume.specs.Gives.{sub_reach, tree_data}
@@ -34,8 +36,8 @@ use Rattle.table_volume.proofs.States.{volume_sound}
 use Rattle.table_volume.proofs.SubEdits.{sub_more}
 use Rattle.table_volume.proofs.Volumes.{volume_given}
 use Rattle.volume_seal.specs.Sealed.{IsReady, states_reach}
-use Rattle.volume_seal.proofs.States.{operated_ready, ready_alike}
-use Rattle.volume_ops.specs.Done.{IsDone, most_in, most_of}
+use Rattle.volume_seal.proofs.States.{all_taken, alike_tree, operated_ready, ready_alike, same_tree}
+use Rattle.volume_ops.specs.Done.{AreNextOf, IsDone, IsNextOf, most_in, most_of}
 use Rattle.volume_ops.proofs.Required.{answer_is, comes_to, needs_none}
 
 -- what takes so many blocks at most takes more at most
@@ -56,6 +58,29 @@ taken_at_most old new asked most same taken = elim (cases_Bool (nat_eq asked 0))
       (subst (λ (table : Table). TakesAtMost old table 0) (sym (same (eqb-true asked 0 none))) (record { spare = omega arith; free = omega arith }))
   | inr some ↦ subst (λ (b : Bool). TakesAtMost old new (cond b 0 most)) (sym some) taken
 ]
+
+-- ---- states that stay, and what is theirs
+
+-- a state whose tree's blocks stay as they are
+next_alike : (old new : Table) (state : SubState) → AreAlike old new (tree_reach old state.tree) → IsNextOf old new state state
+next_alike old new state alike = record {
+  owner = refl;
+  running = refl;
+  kept = λ at here clean.
+      let there : Contains (tree_reach old state.tree) at = subst (λ (l : List ℕ). Contains l at) (same_tree old new state.tree alike).tree_reach_is here in
+      (there, All-contains (λ (a : ℕ). block_at new a ≡ block_at old a) (tree_reach old state.tree) at alike there);
+}
+
+next_themselves : (table : Table) (states : List SubState) → AreNextOf table table states states
+next_themselves table [] = tt
+next_themselves table (state ∷ states) =
+    (record { owner = refl; running = refl; kept = λ at here clean. (here, refl) }, next_themselves table states)
+
+next_joined : (old new : Table) (befores afters before after : List SubState) → AreNextOf old new befores afters → AreNextOf old new before after → AreNextOf old new (befores ++ before) (afters ++ after)
+next_joined old new [] [] before after front back = back
+next_joined old new [] (a ∷ afters) before after front back = absurd front
+next_joined old new (b ∷ befores) [] before after front back = absurd front
+next_joined old new (b ∷ befores) (a ∷ afters) before after front back = (front.0, next_joined old new befores afters before after front.1 back)
 
 -- ---- nothing changes
 
@@ -78,6 +103,8 @@ module _ (table : Table) (states : List SubState) (run : RunVolume) (op : Op) (a
     taken = record { spare = omega arith; free = omega arith };
     refused = λ refusal. (refl, refl);
     idle = λ none. (refl, refl);
+    edit = nothing_is_an_edit table (states_reach table states);
+    states = next_themselves table states;
     ready = λ fsid h. h;
     accounted = λ outside h. h;
   }
@@ -205,6 +232,31 @@ module _ (old new : Table) (lefts rights : List SubState) (before after : SubSta
     | inr reads ↦ idle reads
   ]
 
+  -- ---- the edit of one subvolume is one of all
+  all_edited : IsEdit old new (states_reach old (lefts ++ before ∷ rights)) (states_reach new (lefts ++ after ∷ rights))
+  all_edited =
+      let taken : All (IsTaken old) (states_reach old lefts ++ (sub_reach old before.tree ++ states_reach old rights)) = subst (All (IsTaken old)) (joined old before) (all_taken old (lefts ++ before ∷ rights) run volume) in
+      let whole : IsEdit old new (states_reach old lefts ++ (sub_reach old before.tree ++ states_reach old rights)) (states_reach old lefts ++ (sub_reach new after.tree ++ states_reach old rights)) = edit_among old new (states_reach old lefts) (sub_reach old before.tree) (sub_reach new after.tree) (states_reach old rights) done.edit.edit once taken in
+      let now : states_reach old lefts ++ (sub_reach new after.tree ++ states_reach old rights) ≡ states_reach new (lefts ++ after ∷ rights) = ap (λ (l : List ℕ). l ++ (sub_reach new after.tree ++ states_reach old rights)) (sym lefts_same) ∙ ap (λ (l : List ℕ). states_reach new lefts ++ (sub_reach new after.tree ++ l)) (sym rights_same) ∙ sym (joined new after) in
+      subst (λ (l : List ℕ). IsEdit old new l (states_reach new (lefts ++ after ∷ rights))) (sym (joined old before)) (subst (IsEdit old new (states_reach old lefts ++ (sub_reach old before.tree ++ states_reach old rights))) now whole)
+
+  other_next : (state : SubState) → GivesPart old run state → ((at : ℕ) → Contains (sub_reach old state.tree) at → Contains (sub_reach old before.tree) at → ⊥) → IsNextOf old new state state
+  other_next state gives apart =
+      let alike : AreAlike old new (tree_reach old state.tree) = alike_tree old new state.tree (state_alike old new (sub_reach old before.tree) (sub_reach new after.tree) state gives.sub done.edit.edit gives.gives apart) in
+      next_alike old new state alike
+
+  others_next : (states : List SubState) → All (GivesPart old run) states → ((at : ℕ) → Contains (states_reach old states) at → Contains (sub_reach old before.tree) at → ⊥) → AreNextOf old new states states
+  others_next [] each apart = tt
+  others_next (state ∷ states) each apart = (
+    other_next state (All-head (GivesPart old run) state states each) (λ at here edited. apart at (Contains-append_left (sub_reach old state.tree) (states_reach old states) at here) edited),
+    others_next states (All-tail (GivesPart old run) state states each) (λ at here edited. apart at (Contains-append_right (sub_reach old state.tree) (states_reach old states) at here) edited),
+  )
+
+  all_next : AreNextOf old new (lefts ++ before ∷ rights) (lefts ++ after ∷ rights)
+  all_next =
+      next_joined old new lefts lefts (before ∷ rights) (after ∷ rights) (others_next lefts (All-left (GivesPart old run) lefts (before ∷ rights) volume.each) lefts_apart)
+      (record { owner = done.edit.owner; running = done.edit.running; kept = done.edit.kept }, others_next rights (All-tail (GivesPart old run) before rights (All-right (GivesPart old run) lefts (before ∷ rights) volume.each)) rights_apart)
+
   pub within_done : IsDone old new (lefts ++ before ∷ rights) (lefts ++ after ∷ rights) run op answer
   within_done = record {
     indexes = indexes_of (step run op indexes).made;
@@ -214,6 +266,8 @@ module _ (old new : Table) (lefts rights : List SubState) (before after : SubSta
     taken = taken_at_most old new (need run op) (most_of run op) (λ none. (same_here none).0) (subst (λ (o : Option RunSub). TakesAtMost old new (most_in o op)) (sym there) done.edit.taken);
     refused = λ refusal. let same = done.refused refusal in (same.0, ap (λ (s : SubState). lefts ++ s ∷ rights) same.1);
     idle = λ none. let same = same_here none in (same.0, ap (λ (s : SubState). lefts ++ s ∷ rights) same.1);
+    edit = all_edited;
+    states = all_next;
     ready = all_ready;
     accounted = λ outside h. none_lost old new (sub_reach old before.tree) (sub_reach new after.tree) (outside ++ states_reach old (lefts ++ before ∷ rights)) (outside ++ states_reach new (lefts ++ after ∷ rights)) done.edit.edit h (stays outside)
         (λ at made. Contains-append_right outside (states_reach new (lefts ++ after ∷ rights)) at (to_middle at (Contains-append_left (sub_reach new after.tree) (states_reach new rights) at made)));

@@ -1,5 +1,5 @@
 -- What an operation on a volume's trees comes to.
-use Rattle.std.specs.Prelude.{◌≡◌, ◌+◌, ◌*◌, ◌++◌, ℕ, List, All, Option, Some, None, true, cond, nat_eq}
+use Rattle.std.specs.Prelude.{◌≡◌, ◌+◌, ◌*◌, ◌++◌, ℕ, List, [], ◌∷◌, All, Option, Some, None, true, cond, nat_eq}
 use Rattle.std.specs.FinMap.{get}
 use Rattle.block_table.specs.declared.tree.SubState.{SubState}
 use Rattle.block_table.specs.Table.{Table}
@@ -9,7 +9,8 @@ use Rattle.flat_model.specs.Needs.{need, removed_from}
 use Rattle.flat_model.specs.Refusal.{is_refusal}
 use Rattle.flat_model.specs.Step.{IsChoice, place_of, step}
 use Rattle.flat_model.specs.Volume.{RunSub, RunVolume}
-use Rattle.tree_frame.specs.Frame.{TakesAtMost}
+use Rattle.tree_frame.specs.Frame.{IsEdit, TakesAtMost}
+use Rattle.table_volume.specs.Edited.{KeepsClean}
 use Rattle.table_volume.specs.Gives.{AreAccounted}
 use Rattle.table_volume.specs.Running.{GiveVolume}
 use Rattle.volume_seal.specs.Sealed.{IsReady, states_reach}
@@ -27,9 +28,22 @@ most_of run op = most_in (get run (place_of op).sub.0) op
 abbrev pub room_of : RunVolume → Op → ℕ
 room_of run op = cond (nat_eq (need run op) 0) 0 (most_of run op)
 
+-- A state behind an operation, and the one that its subvolume had before: the subvolume's number and the generation that new items
+-- bear stay, and a block of its tree that isn't Dirty stood in its tree before, as it stands (own).
+pub record IsNextOf (old new : Table) (before after : SubState) : Type 0 where
+  pub owner : after.tree.owner ≡ before.tree.owner
+  pub running : after.running ≡ before.running
+  pub kept : KeepsClean old new before.tree after.tree
+
+-- so it is for each of the states, in their order (own)
+abbrev pub AreNextOf : Table → Table → List SubState → List SubState → Type 0
+AreNextOf old new [] [] = Unit {0}
+AreNextOf old new (before ∷ befores) (after ∷ afters) = IsNextOf old new before after × AreNextOf old new befores afters
+AreNextOf old new before after = ⊥
+
 -- The answer and the volume that the states then give are those of the definition, where the new names get these indexes, which
 -- the operation leaves open; it takes so many blocks at most; a refusal, and an operation that needs no block, leave the table and
--- the states as they were; trees that may be sealed still may; and no block is lost (own).
+-- the states as they were; it is an edit of the volume's blocks alone; trees that may be sealed still may; and no block is lost (own).
 pub record IsDone (old new : Table) (before after : List SubState) (run : RunVolume) (op : Op) (answer : Answer) : Type 0 where
   pub indexes : List ℕ
   pub choice : IsChoice run op indexes
@@ -38,5 +52,7 @@ pub record IsDone (old new : Table) (before after : List SubState) (run : RunVol
   pub taken : TakesAtMost old new (room_of run op)
   pub refused : is_refusal answer ≡ true → (new ≡ old) × (after ≡ before)
   pub idle : need run op ≡ 0 → (new ≡ old) × (after ≡ before)
+  pub edit : IsEdit old new (states_reach old before) (states_reach new after)
+  pub states : AreNextOf old new before after
   pub ready : (fsid : List ℕ) → All (λ state. IsReady old state.tree fsid) before → All (λ state. IsReady new state.tree fsid) after
   pub accounted : (outside : List ℕ) → AreAccounted old (outside ++ states_reach old before) → AreAccounted new (outside ++ states_reach new after)

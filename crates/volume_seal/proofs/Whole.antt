@@ -29,7 +29,7 @@ use Rattle.tree_frame.proofs.Reading.{all_parts, flat_map_same, reach_taken}
 use Rattle.tree_frame.proofs.Sealed.{pointers_shown}
 use Rattle.tree_seal.specs.Above.{DirtyIsAbove}
 use Rattle.tree_seal.specs.OnImage.{AreClean}
-use Rattle.tree_seal.specs.Sealing.{AreHanded, IsSealing, as_handed}
+use Rattle.tree_seal.specs.Sealing.{AreHanded, IsSealing, as_handed, IsSealedSlot}
 use Rattle.tree_seal.proofs.Cuts.{map_append, map_same}
 use Rattle.tree_seal.proofs.Handed.{handed_same}
 use Rattle.tree_seal.proofs.Walk.{reach_itself}
@@ -269,13 +269,14 @@ module _ (old one two new : Table) (states : List SubState) (run : RunVolume) (f
             ];
       }
 
-      pub taken_now : TakesAtMost one two 3 → TakesAtMost old new 3
+      pub taken_now : TakesAtMost one two (length (tree_reach two root)) → TakesAtMost old new (length (tree_reach new root))
       taken_now taken =
           let spare_first = first.part.sealing.spare in
           let spare_last = sealing.spare in
           let free_first = free_same old one (states_reach old states) first.part.sealing in
           let free_last = free_same two new (tree_reach two root) sealing in
-          record { spare = omega (arith, spare_first, spare_last, taken.spare); free = omega (arith, free_first, free_last, taken.free) }
+          let same = ap length reach in
+          record { spare = omega (arith, spare_first, spare_last, taken.spare, same); free = omega (arith, free_first, free_last, taken.free, same) }
 
       clean_root : AreClean new (tree_reach new root)
       clean_root =
@@ -298,11 +299,12 @@ module _ (old one two new : Table) (states : List SubState) (run : RunVolume) (f
       entries_same =
           map_same (state_entry one) (state_entry new) states (λ k d within. entry_same (slice_index_or states k d) (stay_new (slice_index_or states k d).tree.root.0 (root_in (slice_index_or states k d) (All-contains_itself states k d within))))
 
-      pub sealed_now_all : tree_items two root ≡ state_entries one states → root.owner ≡ ROOT_TREE → IsSealedTree new root fsid generation → length (tree_reach two root) ≤ 3 → All (λ (s : SubState). (root_of one s.tree).generation < 2 ^ 64) states → IsVolumeSealed old new states root fsid generation after.pairs
-      sealed_now_all listed owner written few fits = record {
+      pub sealed_now_all : tree_items two root ≡ state_entries one states → root.owner ≡ ROOT_TREE → IsSealedTree new root fsid generation → length (tree_reach two root) ≤ 3 → (length states ≤ 8 → length (tree_reach two root) ≡ 1) → All (λ (s : SubState). (root_of one s.tree).generation < 2 ^ 64) states → IsVolumeSealed old new states root fsid generation after.pairs
+      sealed_now_all listed owner written few small fits = record {
         given = volume_now;
         reach = same_reach;
         ready = λ k d within. (whole k d within).ready;
+        whole = whole;
         made = record {
           tree = stands;
           owner = owner;
@@ -310,10 +312,13 @@ module _ (old one two new : Table) (states : List SubState) (run : RunVolume) (f
           sealed = written;
           fits = λ k d within. subst (λ (slot : BlockSlot). field 8 slot.bytes 80 < 2 ^ 64) (sym (stay_new (slice_index_or states k d).tree.root.0 (root_in (slice_index_or states k d) (All-contains_itself states k d within)))) (fits k d within);
           fresh = subst (All (λ (at : ℕ). (block_at old at).state ≡ Free)) (sym reach) (All-weaker (Contains (tree_reach two root)) (λ (at : ℕ). (block_at old at).state ≡ Free) (λ at here. root_was_free at here) (tree_reach two root) (All-contains_itself (tree_reach two root)));
+          now = All-weaker (Contains (tree_reach new root)) (λ (at : ℕ). (block_at new at).state ≡ Sealed) (λ at here. ap (λ (slot : BlockSlot). slot.state) ((sealing.slots at (root_from at here)).dirty (All-contains (λ (a : ℕ). (block_at two a).state ≡ Dirty) (tree_reach two root) at root_dirty (root_from at here)))) (tree_reach new root) (All-contains_itself (tree_reach new root));
           few = subst (λ (l : List ℕ). length l ≤ 3) (sym reach) few;
+          small = λ least. ap length reach ∙ small least;
         };
         once = subst NoneTwice (ap (λ (l : List ℕ). l ++ states_reach old states) (sym reach) ∙ ap (λ (l : List ℕ). tree_reach new root ++ l) (sym same_reach)) both_once;
         clean = All-append (λ (at : ℕ). (block_at new at).state ≢ Dirty) (tree_reach new root) (states_reach new states) clean_root clean_states;
+        slots = λ at there. subst (IsSealedSlot (block_at old at)) (sym (stay_new at there)) (first.part.sealing.slots at there);
         written = written_now;
         kept = kept_now;
       }

@@ -3,7 +3,7 @@ use Rattle.std.specs.Prelude.{◌≡◌, ◌≤◌, ◌<◌, ◌^◌, ◌⊎◌,
 use Rattle.std.specs.List.{flat_map}
 use Rattle.blk_base.specs.declared.format.TheConstants.{ROOT_TREE}
 use Rattle.blk_base.specs.Trees.{AtBlock, NoneTwice}
-use Rattle.block_table.specs.declared.state.SlotState.TheVariants.{Dirty, Free}
+use Rattle.block_table.specs.declared.state.SlotState.TheVariants.{Dirty, Free, Sealed}
 use Rattle.block_table.specs.declared.tree.SubState.{SubState}
 use Rattle.block_table.specs.declared.tree.Tree.{Tree}
 use Rattle.block_table.specs.Blocks.{BlockList}
@@ -13,7 +13,7 @@ use Rattle.tree_range.specs.Shape.{IsTree, tree_items, tree_reach}
 use Rattle.tree_frame.specs.Frame.{AreFree}
 use Rattle.tree_seal.specs.Above.{IsDirtyAbove}
 use Rattle.tree_seal.specs.OnImage.{AreClean}
-use Rattle.tree_seal.specs.Sealing.{AreHanded, IsSealing, as_handed}
+use Rattle.tree_seal.specs.Sealing.{AreHanded, IsSealedSlot, IsSealing, as_handed}
 use Rattle.flat_model.specs.Volume.{RunVolume}
 use Rattle.table_volume.specs.Gives.{sub_reach, tree_data}
 use Rattle.table_volume.specs.Running.{GiveVolume}
@@ -71,17 +71,21 @@ pub record IsNewRoot (old new : Table) (states : List SubState) (root : Tree) (f
   pub sealed : IsSealedTree new root fsid generation
   pub fits : All (λ state. (root_of new state.tree).generation < 2 ^ 64) states
   pub fresh : All (λ (at : ℕ). (block_at old at).state ≡ Free) (tree_reach new root)
+  pub now : All (λ (at : ℕ). (block_at new at).state ≡ Sealed) (tree_reach new root)
   pub few : length (tree_reach new root) ≤ 3
+  pub small : length states ≤ 8 → length (tree_reach new root) ≡ 1
 
 -- All trees of a volume were sealed, with a new root tree over them: the states give the volume that they gave, by the same
--- blocks; none of these blocks is Dirty, none is of two trees, and all pass their headers' checks; and every other block stays
--- (own).
+-- blocks, of which the Dirty ones are Sealed and the others stay; none of these blocks is Dirty, none is of two trees, and all
+-- pass their headers' checks; and every other block stays (own).
 pub record IsVolumeSealed (old new : Table) (states : List SubState) (root : Tree) (fsid : List ℕ) (generation : ℕ) (pairs : List AtBlock) : Type 0 where
   pub given : (run : RunVolume) → GiveVolume old states run → GiveVolume new states run
   pub reach : states_reach new states ≡ states_reach old states
   pub ready : All (λ state. IsReady new state.tree fsid) states
+  pub whole : All (λ state. IsWhole old new state.tree fsid) states
   pub made : IsNewRoot old new states root fsid generation
   pub once : NoneTwice (tree_reach new root ++ states_reach new states)
   pub clean : AreClean new (tree_reach new root ++ states_reach new states)
+  pub slots : (at : ℕ) → Contains (states_reach old states) at → IsSealedSlot (block_at old at) (block_at new at)
   pub written : AreWritten old new (tree_reach new root) (states_reach old states) pairs
   pub kept : IsKept old new (tree_reach new root ++ states_reach old states)

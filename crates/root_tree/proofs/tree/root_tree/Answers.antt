@@ -1,5 +1,6 @@
 use Rattle.std.proofs.Common.{◌≡◌, ◌∙◌, ◌≤◌, ℕ, List, ◌++◌, length, sym, subst, arith}
 use Rattle.std.specs.Prelude.{slice_index_or}
+use Rattle.tree_frame.specs.Frame.{TakesAtMost}
 use Rattle.blk_base.specs.declared.key.Addr.{Addr}
 use Rattle.blk_base.specs.declared.key.Key.{Key}
 use Rattle.blk_base.specs.Leaf.{Pointer}
@@ -70,3 +71,11 @@ pub returns-clause-few : goal.returns-clause-few
 returns-clause-few c =
     let reach = two_leaf_reach c.args.table.now c.root_leaf-2.new.table c.root_leaf-3.new.table c.new_node.new.table c.new_node.result.0 c.args.owner (pointer_with c.split_at.result.0.now c.root_leaf-2.result) (pointer_with c.split_at.result.1.now c.root_leaf-3.result) (root_entries c.split_at.result.0.now) (root_entries c.split_at.result.1.now) (first_made c) (second_made c) c.new_node.ensures.node c.new_node.ensures.pointers c.new_node.ensures.taken c.new_node.ensures.others (both_rise c) in
     subst (λ (l : List ℕ). length l ≤ 3) (sym reach) (omega arith)
+
+pub returns-clause-taken : goal.returns-clause-taken
+returns-clause-taken c =
+    let reach = two_leaf_reach c.args.table.now c.root_leaf-2.new.table c.root_leaf-3.new.table c.new_node.new.table c.new_node.result.0 c.args.owner (pointer_with c.split_at.result.0.now c.root_leaf-2.result) (pointer_with c.split_at.result.1.now c.root_leaf-3.result) (root_entries c.split_at.result.0.now) (root_entries c.split_at.result.1.now) (first_made c) (second_made c) c.new_node.ensures.node c.new_node.ensures.pointers c.new_node.ensures.taken c.new_node.ensures.others (both_rise c) in
+    let one = c.root_leaf-2.ensures in
+    let two = c.root_leaf-3.ensures in
+    let three = c.new_node.ensures in
+    subst (λ (l : List ℕ). TakesAtMost c.args.table.now c.new_node.new.table (length l)) (sym reach) (record { spare = omega (arith, one.spare, two.spare, three.spare); free = omega (arith, one.free, two.free, three.free) })

@@ -1,8 +1,11 @@
-use Rattle.std.proofs.Common.{◌∙◌, length, sym, ap, subst, arith}
+use Rattle.std.proofs.Common.{◌∙◌, length, take, sym, ap, subst, arith}
 use Rattle.std.specs.Prelude.{slice_index_or}
 use Rattle.blk_base.specs.Trees.{ItemsRise}
 use Rattle.block_table.specs.declared.tree.SubState.{SubState}
 use Rattle.block_table.specs.Blocks.{BlockList}
+use Rattle.std.proofs.lemmas.List.{length-map}
+use Rattle.root_tree.specs.Roots.{root_entry}
+use Rattle.volume_seal.specs.Roots.{state_entry}
 use Rattle.volume_seal.proofs.Free.{free_same}
 use Rattle.volume_seal.proofs.Rooted.{there_at}
 use Rattle.volume_seal.proofs.Standing.{state_entries_rise}
@@ -72,7 +75,7 @@ seal_tree-requires-clause-room c =
 pub returns-clause-sealed : goal.returns-clause-sealed
 returns-clause-sealed c =
     sealed_now_all c.args.table.now c.loop-state.table c.root_tree-root.new.table c.seal_tree.new.table c.args.states.now c.requires.volume.0 c.args.fsid.now c.args.generation c.root_tree-root.result c.args.out.now c.loop-state.out c.seal_tree.new.out c.requires.volume.1 (ap (λ (l : BlockList). l.pairs) c.requires.list) (sealed_all c.args.table.now c.loop-state.table c.args.states.now c.loop-state.state-index c.args.fsid.now c.args.out.now c.loop-state.out c.loop-state-test.false c.loop-state.invariant) c.root_tree-root.ensures.edit c.root_tree-root.ensures.tree c.seal_tree.ensures.tree c.seal_tree.ensures.items c.seal_tree.ensures.reach c.seal_tree.ensures.sealing c.seal_tree.ensures.handed
-    (c.root_tree-root.ensures.items ∙ c.roots_of-roots.ensures.items) c.root_tree-root.ensures.owner (c.seal_tree.ensures.sealed (root_first_dirty c.args.table.now c.loop-state.table c.root_tree-root.new.table c.seal_tree.new.table c.args.states.now c.requires.volume.0 c.args.fsid.now c.args.generation c.root_tree-root.result c.args.out.now c.loop-state.out c.seal_tree.new.out c.requires.volume.1 (ap (λ (l : BlockList). l.pairs) c.requires.list) (sealed_all c.args.table.now c.loop-state.table c.args.states.now c.loop-state.state-index c.args.fsid.now c.args.out.now c.loop-state.out c.loop-state-test.false c.loop-state.invariant) c.root_tree-root.ensures.edit)) c.root_tree-root.ensures.few c.roots_of-roots.ensures.fits
+    (c.root_tree-root.ensures.items ∙ c.roots_of-roots.ensures.items) c.root_tree-root.ensures.owner (c.seal_tree.ensures.sealed (root_first_dirty c.args.table.now c.loop-state.table c.root_tree-root.new.table c.seal_tree.new.table c.args.states.now c.requires.volume.0 c.args.fsid.now c.args.generation c.root_tree-root.result c.args.out.now c.loop-state.out c.seal_tree.new.out c.requires.volume.1 (ap (λ (l : BlockList). l.pairs) c.requires.list) (sealed_all c.args.table.now c.loop-state.table c.args.states.now c.loop-state.state-index c.args.fsid.now c.args.out.now c.loop-state.out c.loop-state-test.false c.loop-state.invariant) c.root_tree-root.ensures.edit)) c.root_tree-root.ensures.few (λ least. c.root_tree-root.ensures.small (omega (arith, least, ap length c.roots_of-roots.ensures.items, length-map (take (length c.args.states.now) c.roots_of-roots.result) root_entry, length-map c.args.states.now (state_entry c.loop-state.table)))) c.roots_of-roots.ensures.fits
 
 pub returns-clause-taken : goal.returns-clause-taken
 returns-clause-taken c =
