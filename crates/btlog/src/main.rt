@@ -10,7 +10,6 @@ mod standard;
 use blk_base::format::BLOCK_SIZE;
 use file_disk::FileDisk;
 use foreign_read::{ForeignStatus, drive_foreign};
-use mount_volume::MountFault as LeafFault;
 use script_runner::{Status, blocks_asked, drive};
 use standard::{ReaderSource, WriterSink};
 use std::alloc::AllocError;
@@ -40,7 +39,6 @@ IMAGE is a file with the image of a volume. Commands, and what they print:
   foreign                 shows what a volume has     its listing
     the volume was made by the kernel or its tools, on one device with single or
     DUP chunks; the image is only read
-For run the volume has to stand in one leaf.
 
 Other answers, and the exit status of each:
   0  the command was done
@@ -121,7 +119,6 @@ fn explain(rt: &HostRuntime, path: &str, status: Status) {
     let _ = match status {
         Status::Usage => rt.eprintln(USAGE),
         Status::NoVolume(fault) => eprintln!(rt; "btlog: {path}: {}", meaning(fault)),
-        Status::NoLeaf(fault) => eprintln!(rt; "btlog: {path}: {}", leaf_meaning(fault)),
         _ => Ok(()),
     };
 }
@@ -138,18 +135,6 @@ fn meaning(fault: MountFault) -> &'static str {
         MountFault::NoRoom { .. } => "it has too few free blocks to be mounted",
         MountFault::Disk => "it couldn't be read",
         MountFault::OutOfMemory => "there was no memory",
-    }
-}
-
-/// What it means that no script can be run on a volume for this fault.
-fn leaf_meaning(fault: LeafFault) -> &'static str {
-    match fault {
-        LeafFault::Super(_) =>
-            "its superblock isn't that of a volume that mkfs made, or is damaged",
-        LeafFault::OneLeaf => "scripts run only on a volume that stands in one leaf and has no log",
-        LeafFault::Load(_) => "a tree has a block that is damaged or isn't where one may be",
-        LeafFault::Disk => "it couldn't be read",
-        LeafFault::OutOfMemory => "there was no memory",
     }
 }
 

@@ -29,7 +29,7 @@ use Rattle.volume_image.proofs.Members.{in_map, map_in}
 use Rattle.volume_seal.specs.Sealed.{states_reach}
 use Rattle.commit_blocks.specs.declared.kept.Kept.{Kept}
 use Rattle.commit_blocks.specs.Keeps.{BusyIsAbove, HoldsCommit, IsBusy, IsCurrent, IsFound, IsHeld, IsQuiet, KeepsBlocks, blocks_at, numbered_at, old_roots, roots_room}
-use Rattle.commit_blocks.specs.Mounting.{IsMountOf, MayBeKept}
+use Rattle.commit_blocks.specs.Mounting.{IsMountOf}
 use Rattle.commit_blocks.proofs.MountBlocks.{bytes_same, enough, gives_now, known, others_now, reach_same, root_gone, root_now, root_same, seals_now, state_now, taken, used_before}
 use Rattle.commit_blocks.proofs.Read.{each}
 
@@ -43,7 +43,7 @@ some_below : (level : ℕ) (table : Table) (at : ℕ) → 1 ≤ length (reach_be
 some_below zero table at = omega arith
 some_below (suc level) table at = omega arith
 
-module _ (m : Mounted) (count : ℕ) (ready : IsReadyMount m count) (may : MayBeKept m) (new : Table) (gone : AreLetGo m.table new (tree_reach m.table m.root))
+module _ (m : Mounted) (count : ℕ) (ready : IsReadyMount m count) (new : Table) (gone : AreLetGo m.table new (tree_reach m.table m.root))
     (let_go : Vec Addr Global) (empty : let_go.items ≡ []) (room : length m.table.slots ≤ vec_capacity let_go) where
   abbrev old : Table
   old = m.table
@@ -123,7 +123,7 @@ module _ (m : Mounted) (count : ℕ) (ready : IsReadyMount m count) (may : MayBe
 
   roots_least : roots_room (length states) ≤ length (tree_reach old m.root)
   roots_least = elim (cases_lt 8 (length states)) [
-    | inl many ↦ subst (λ (b : Bool). (if b then 1 else 3) ≤ length (tree_reach old m.root)) (sym (lt-leb (length states) 8 many)) (may.many many)
+    | inl many ↦ subst (λ (b : Bool). (if b then 1 else 3) ≤ length (tree_reach old m.root)) (sym (lt-leb (length states) 8 many)) (ready.root_many many)
     | inr less ↦ subst (λ (b : Bool). (if b then 1 else 3) ≤ length (tree_reach old m.root)) (sym (le-leb (length states) 8 less)) root_some
   ]
 
@@ -142,10 +142,10 @@ module _ (m : Mounted) (count : ℕ) (ready : IsReadyMount m count) (may : MayBe
       above = each (λ (state : SubState). BusyIsAbove state.tree.level new state.tree.root.0) states (λ state there. none_above state.tree.level new state.tree.root.0 (λ block busy. elim busy [ inl dirty ↦ absurd (not_dirty block dirty) | inr is ↦ absurd (not_sealed block is) ]));
       allowed = λ at used. subst (λ (n : ℕ). IsAllowed n at) (sym gone.size) (allowed_at at (in_reach at used));
       fits = subst (λ (n : ℕ). n ≤ length new.slots) (let r : ℕ = roots_room (length states) in let e : length (states_reach new states) + (198 + r) ≡ length (states_reach new states) + r + 198 = omega arith in e) (fits (roots_room (length states)) roots_least);
-      last_few = subst (λ (l : List ℕ). length l ≤ 33) (sym (root_same m count ready new gone)) may.few;
+      last_few = subst (λ (l : List ℕ). length l ≤ 33) (sym (root_same m count ready new gone)) ready.root_few;
       failed_few = omega arith;
       sealed_few = omega arith;
-      spare = let more = gone.spare in let enough = may.spare in omega (arith, more, enough);
+      spare = let more = gone.spare in let enough = ready.spare in omega (arith, more, enough);
       free = let free = enough m count ready new gone in omega (arith, free);
     }
 

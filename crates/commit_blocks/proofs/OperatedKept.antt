@@ -352,6 +352,7 @@ module _ (old : Kept) (image : Image) (run : RunVolume) (scene : Scene) (op : Op
   is_kept_operated = record {
     indexes = done.indexes;
     choice = done.choice;
+    newest = done.newest;
     said = done.said;
     keeps = record { current = is_current; found = is_found; turn = is_turn old.sealed keeps.turn };
     taken = done.taken;

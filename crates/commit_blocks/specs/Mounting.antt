@@ -1,5 +1,5 @@
 -- What a mounted volume starts from.
-use Rattle.std.specs.Prelude.{◌≡◌, ◌≤◌, ◌<◌, ℕ, [], length, slice_index_or}
+use Rattle.std.specs.Prelude.{◌≡◌, ◌≤◌, [], length, slice_index_or}
 use Rattle.blk_base.specs.declared.format.TheConstants.{SUPER_BLOCK}
 use Rattle.blk_base.specs.Bytes.{Image}
 use Rattle.commit_images.specs.Scene.{Commit}
@@ -8,7 +8,6 @@ use Rattle.table_volume.specs.Running.{GiveVolume}
 use Rattle.tree_load.specs.Loaded.{HasBytes}
 use Rattle.tree_mount.specs.declared.mounted.Mounted.{Mounted}
 use Rattle.tree_mount.specs.Mounted.{mount_reach}
-use Rattle.tree_range.specs.Shape.{tree_reach}
 use Rattle.commit_blocks.specs.Keeps.{blocks_at}
 
 -- the commit of this image's superblock, which reaches the blocks of a mounted volume, for this volume (own)
@@ -21,10 +20,3 @@ pub record IsMountOf (image : Image) (m : Mounted) (run : RunVolume) (commit : C
   pub gives : GiveVolume m.table m.states.items run
   pub bytes : HasBytes image m.table (mount_reach m)
   pub blocks : commit.blocks ≡ blocks_at m.table (mount_reach m)
-
--- A root tree of more items than stand in a leaf, eight, has two leaves and a node at least, and one of 16 items 33 blocks at most ("ROOT_ITEM"); and there are
--- buffers for seals (own).
-pub record MayBeKept (m : Mounted) : Type 0 where
-  pub many : 8 < length m.states.items → 3 ≤ length (tree_reach m.table m.root)
-  pub few : length (tree_reach m.table m.root) ≤ 33
-  pub spare : 80 ≤ m.table.spare

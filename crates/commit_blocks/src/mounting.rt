@@ -1,12 +1,13 @@
 //! The blocks of a volume that was mounted.
-ghost use Rattle.std.specs.Prelude.{IfOk, ℕ};
+ghost use Rattle.std.specs.Prelude.{◌≡◌, IfOk, None, length, ℕ};
 ghost use Rattle.blk_base.specs.Bytes.{Image};
 ghost use Rattle.commit_images.specs.Scene.{Commit, first_scene};
 ghost use Rattle.disk_model.specs.Disk.{Held};
 ghost use Rattle.flat_model.specs.Volume.{RunVolume};
 ghost use Rattle.tree_mount.specs.Mounted.{IsReadyMount};
+ghost use Rattle.volume_image.specs.Roots.{next_generation};
 ghost use Rattle.commit_blocks.specs.Keeps.{KeepsBlocks};
-ghost use Rattle.commit_blocks.specs.Mounting.{IsMountOf, MayBeKept};
+ghost use Rattle.commit_blocks.specs.Mounting.{IsMountOf};
 
 use crate::Kept;
 use blk_base::OutOfMemory;
@@ -19,9 +20,12 @@ impl Kept {
     /// long as its superblock does (own). There is room for the addresses of all blocks, so that a seal takes no memory.
     pub fn mounted(alloc: Global, mounted: Mounted) -> Result<Kept, OutOfMemory>
         requires ready { (count : ℕ) × IsReadyMount mounted count }
-        requires kept { MayBeKept mounted }
-        ensures { IfOk result (λ kept. (image : Image) (run : RunVolume) (held : Held) (commit : Commit) → IsMountOf image mounted run commit
+        ensures keeps { IfOk result (λ kept. (image : Image) (run : RunVolume) (held : Held) (commit : Commit) → IsMountOf image mounted run commit
             → KeepsBlocks kept image run (first_scene held commit)) }
+        ensures size { IfOk result (λ kept. length kept.table.slots ≡ length mounted.table.slots) }
+        ensures fsid { IfOk result (λ kept. kept.fsid ≡ mounted.superblock.fsid) }
+        ensures generation { IfOk result (λ kept. kept.generation ≡ next_generation mounted.superblock.generation) }
+        ensures quiet { IfOk result (λ kept. kept.sealed ≡ None) }
     {
         let Mounted {
             mut table,

@@ -23,7 +23,7 @@ impl Kept {
     /// # Errors
     ///
     /// Out of memory for the bytes of an answer: then nothing changes.
-    pub(crate) fn operate(&mut self, alloc: Global, op: &Op) -> Result<Answer, OutOfMemory>
+    pub fn operate(&mut self, alloc: Global, op: &Op) -> Result<Answer, OutOfMemory>
         requires limits { IsInLimits op.now }
         requires given { (image : Image) × (run : RunVolume) × (scene : Scene) × KeepsBlocks self.old image run scene × HasRoomFor self.old.table run op.now }
         ensures done { (image : Image) (run : RunVolume) (scene : Scene) → KeepsBlocks self.old image run scene → HasRoomFor self.old.table run op.now

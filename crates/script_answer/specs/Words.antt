@@ -6,8 +6,6 @@ use Rattle.flat_model.specs.declared.answer.Answer.TheVariants as answers
 use Rattle.flat_model.specs.declared.answer.Reason.{Reason}
 use Rattle.flat_model.specs.declared.answer.Reason.TheVariants as reasons
 use Rattle.io_edge.specs.Printed.{printed}
-use Rattle.script_answer.specs.declared.answer.FirstAnswer.{FirstAnswer}
-use Rattle.script_answer.specs.declared.answer.FirstAnswer.TheVariants as first_answers
 
 -- the words of bytes that were read: none behind `ok` where there are none, and else the bytes as the listing prints them (own)
 abbrev pub bytes_words : List ℕ → List ℕ
@@ -45,14 +43,9 @@ answer_words answers.Collide = codes "collide"
 answer_words (answers.NoSpace free need) = codes "nospace " ++ decimal free ++ codes " " ++ decimal need
 answer_words answers.Io = codes "io"
 
--- the words of what a call on a volume in one leaf answers (own)
-abbrev pub first_words : FirstAnswer → List ℕ
-first_words (first_answers.Answer answer) = answer_words answer
-first_words first_answers.OneLeaf = codes "oneleaf"
-
 -- the line of a call that has finished: its caller in decimal, and the words of its answer (own)
-abbrev pub answer_line : ℕ → FirstAnswer → List ℕ
-answer_line caller answer = decimal caller ++ codes " " ++ first_words answer ++ codes "\n"
+abbrev pub answer_line : ℕ → Answer → List ℕ
+answer_line caller answer = decimal caller ++ codes " " ++ answer_words answer ++ codes "\n"
 
 -- the last line of a script's run: how many calls have finished (own)
 abbrev pub done_line : ℕ → List ℕ

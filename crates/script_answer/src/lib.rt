@@ -3,10 +3,8 @@
 //! `specs/Words.antt` has the text, byte for byte.
 #![tactic(auto)]
 
-mod answer;
 mod bytes;
 mod line;
 mod words;
 
-pub use answer::FirstAnswer;
 pub use line::{put_answer, put_done};

@@ -4,8 +4,8 @@ ghost use Rattle.std.specs.Fmt.{decimal};
 ghost use Rattle.io_edge.specs.Edge.{Takes, TakesFront, HasCause};
 ghost use Rattle.script_answer.specs.Words.{answer_line, done_line};
 
-use crate::answer::FirstAnswer;
-use crate::words::{put_first, put_number};
+use crate::words::{put_number, put_words};
+use flat_model::Answer;
 use io_edge::{Sink, SinkFailed, put};
 
 /// Writes a caller and a space.
@@ -21,13 +21,13 @@ fn put_caller<K: Sink>(to: &mut K, caller: u32) -> Result<(), SinkFailed>
 /// Writes the line of a call that has finished: `CALLER ANSWER`, with the caller's number in decimal and the answer's words
 /// as `specs/Words.antt` has them: `ok` and what was answered, or the name of the refusal (own). Takes no memory. Where the
 /// sink fails it has taken a front of the line.
-pub fn put_answer<K: Sink>(to: &mut K, caller: u32, answer: &FirstAnswer) -> Result<(), SinkFailed>
+pub fn put_answer<K: Sink>(to: &mut K, caller: u32, answer: &Answer) -> Result<(), SinkFailed>
     ensures whole { OnOk result (Takes (K.taken to.old) (answer_line caller answer.now) (K.taken to.new)) }
     ensures front { OnErr result (TakesFront (K.taken to.old) (answer_line caller answer.now) (K.taken to.new)) }
     ensures cause { HasCause (K.faults to.old) (K.faults to.new) result }
 {
     put_caller(to, caller)?;
-    put_first(to, answer)?;
+    put_words(to, answer)?;
     put(to, b"\n")
 }
 

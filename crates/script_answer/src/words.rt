@@ -2,9 +2,8 @@
 ghost use Rattle.std.specs.Prelude.{◌++◌, OnOk, OnErr, codes};
 ghost use Rattle.std.specs.Fmt.{decimal};
 ghost use Rattle.io_edge.specs.Edge.{Takes, TakesFront, HasCause};
-ghost use Rattle.script_answer.specs.Words.{reason_words, answer_words, first_words};
+ghost use Rattle.script_answer.specs.Words.{reason_words, answer_words};
 
-use crate::answer::FirstAnswer;
 use crate::bytes::put_bytes;
 use flat_model::{Answer, Reason};
 use io_edge::{Sink, SinkFailed, put, put_all};
@@ -45,7 +44,7 @@ fn put_reason<K: Sink>(to: &mut K, reason: &Reason) -> Result<(), SinkFailed>
 }
 
 /// Writes the words of an operation's answer, or of a sync's.
-fn put_words<K: Sink>(to: &mut K, answer: &Answer) -> Result<(), SinkFailed>
+pub(crate) fn put_words<K: Sink>(to: &mut K, answer: &Answer) -> Result<(), SinkFailed>
     ensures whole { OnOk result (Takes (K.taken to.old) (answer_words answer.now) (K.taken to.new)) }
     ensures front { OnErr result (TakesFront (K.taken to.old) (answer_words answer.now) (K.taken to.new)) }
     ensures cause { HasCause (K.faults to.old) (K.faults to.new) result }
@@ -72,17 +71,5 @@ fn put_words<K: Sink>(to: &mut K, answer: &Answer) -> Result<(), SinkFailed>
         Answer::Collide => put(to, b"collide"),
         Answer::NoSpace { free, need } => put_space(to, "nospace ", *free, *need),
         Answer::Io => put(to, b"io"),
-    }
-}
-
-/// Writes the words of what a call on a volume in one leaf answers.
-pub(crate) fn put_first<K: Sink>(to: &mut K, answer: &FirstAnswer) -> Result<(), SinkFailed>
-    ensures whole { OnOk result (Takes (K.taken to.old) (first_words answer.now) (K.taken to.new)) }
-    ensures front { OnErr result (TakesFront (K.taken to.old) (first_words answer.now) (K.taken to.new)) }
-    ensures cause { HasCause (K.faults to.old) (K.faults to.new) result }
-{
-    match answer {
-        FirstAnswer::Answer(answer) => put_words(to, answer),
-        FirstAnswer::OneLeaf => put(to, b"oneleaf"),
     }
 }

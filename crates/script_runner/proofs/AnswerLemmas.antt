@@ -1,5 +1,5 @@
 -- The answers and texts of `list`.
-use Rattle.std.proofs.Common.{◌≡◌, ◌⊎◌, inl, inr, ℕ, List, Option, Some, None, Result, Ok, Err, length, ap, refl, subst, sym, ◌∙◌}
+use Rattle.std.proofs.Common.{◌≡◌, ◌≢◌, ◌⊎◌, inl, inr, ℕ, List, Option, Some, None, Result, Ok, Err, length, ap, refl, subst, sym, ◌∙◌}
 use Rattle.disk_model.specs.Disk.{IfTold}
 use Rattle.io_edge.specs.Edge.{Takes}
 use Rattle.blk_base.specs.declared.fault.SuperFault.{SuperFault}
@@ -19,7 +19,7 @@ use Rattle.tree_mount.specs.declared.mounted.Mounted.{Mounted}
 use Rattle.tree_mount.specs.Mounted.{IsMountedAs, IsReadyMount}
 use Rattle.tree_mount.specs.Faults.{HasLog, IsToldFault}
 use Rattle.script_runner.specs.declared.status.Status.{Status}
-use Rattle.script_runner.specs.declared.status.Status.TheVariants.{Done, Usage, BadScript, NoVolume, NoLeaf, DiskFault, ReadFault, WriteFault, Memory, MkfsRange}
+use Rattle.script_runner.specs.declared.status.Status.TheVariants.{Done, Usage, BadScript, NoVolume, DiskFault, ReadFault, WriteFault, Memory, MkfsRange}
 use Rattle.script_runner.specs.Commands.{HasVolume, IsDoneText, IsList, IsListAnswer, IsListText, IsListing, IsTextOf, IsPut, made_line, status_of}
 use Rattle.io_edge.proofs.Sinks.{Takes-front}
 
@@ -39,7 +39,6 @@ mounted_text seen run Done text stands is = mounted_listing seen run text stands
 mounted_text seen run WriteFault text stands is = mounted_listing seen run text stands is
 mounted_text seen run Usage text stands is = is
 mounted_text seen run (NoVolume fault) text stands is = is
-mounted_text seen run (NoLeaf fault) text stands is = is
 mounted_text seen run DiskFault text stands is = is
 mounted_text seen run Memory text stands is = is
 mounted_text seen run MkfsRange text stands is = is
@@ -71,6 +70,17 @@ no_log image it log =
     let same : ◌≡◌ {A = Result SuperValue SuperFault} (Ok log.super) (Ok stands.super) = sym log.has_super ∙ super_of-Ok (super_block image) (length image) stands.super stands.spelled in
     let supers : log.super ≡ stands.super = cc in
     log.log (ap (λ (super : SuperValue). super.log_root) supers ∙ stands.no_log)
+
+-- a volume that stands has none of the faults of an image
+pub not_refused : (image : Image) (fault : MountFault) → HasVolume image → IsToldFault (Some image) fault → fault ≢ Disk → fault ≢ OutOfMemory → ⊥
+not_refused image (Super fault) it told disk memory = no_fault image _ it told.first
+not_refused image Log it told disk memory = no_log image it told
+not_refused image (Load fault) it told disk memory = no_fault image _ it told.first
+not_refused image (Item at key fault) it told disk memory = no_fault image _ it told.first
+not_refused image (Incoherent sub ino) it told disk memory = no_fault image _ it told.first
+not_refused image (NoRoom free need) it told disk memory = no_fault image _ it told.first
+not_refused image Disk it told disk memory = disk refl
+not_refused image OutOfMemory it told disk memory = memory refl
 
 -- a volume that stands isn't refused
 pub refused : (seen : Option Image) (fault : MountFault) (status : Status) (disk_risen sink_risen : Type 0) → IsToldFault seen fault → (fault ≡ Disk → disk_risen) → status ≡ status_of fault

@@ -1,5 +1,5 @@
 -- The line of an item's fault, piece by piece.
-use Rattle.std.proofs.Common.{◌≡◌, ◌++◌, [], List, ℕ, append_assoc, codes, sym, ◌∙◌, ap}
+use Rattle.std.proofs.Common.{◌≡◌, ◌++◌, List, ℕ, append_assoc, codes, sym, ◌∙◌, ap}
 use Rattle.std.specs.Fmt.{decimal}
 use Rattle.blk_base.specs.declared.fault.ItemFault.{ItemFault}
 use Rattle.blk_base.specs.declared.key.Addr.{Addr}

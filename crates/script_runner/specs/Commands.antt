@@ -8,19 +8,15 @@ use Rattle.flat_model.specs.Volume.{Volume}
 use Rattle.volume_image.specs.Tree.{Image}
 use Rattle.volume_image.specs.Stands.{Stands}
 use Rattle.volume_listing.specs.Listing.{listing_of}
-use Rattle.one_leaf.specs.OneLeaf.{IsOneLeaf}
-use Rattle.mount_volume.specs.declared.fault.MountFault.{MountFault as LeafFault}
-use Rattle.mount_volume.specs.declared.fault.MountFault.TheVariants as leaf_faults
 use Rattle.tree_mount.specs.declared.fault.MountFault.{MountFault}
 use Rattle.tree_mount.specs.declared.fault.MountFault.TheVariants.{Disk, OutOfMemory}
 use Rattle.tree_mount.specs.Faults.{IsToldFault}
-use Rattle.mount_volume.specs.Answer.{HasRisen}
+use Rattle.blk_base.specs.Causes.{HasRisen}
 use Rattle.volume_mkfs.specs.Made.{MayBeMade}
-use Rattle.mount_volume.specs.Mount.{IsFlat, IsMountFault}
 use Rattle.script_runner.specs.declared.status.Status.{Status}
-use Rattle.script_runner.specs.declared.status.Status.TheVariants.{Done, Usage, BadScript, NoVolume, NoLeaf, DiskFault, ReadFault, WriteFault, Memory, MkfsRange}
+use Rattle.script_runner.specs.declared.status.Status.TheVariants.{Done, Usage, BadScript, NoVolume, DiskFault, ReadFault, WriteFault, Memory, MkfsRange}
 use Rattle.script_text.specs.Kinds.{kind_word}
-use Rattle.script_runner.specs.Faults.{fault_line, leaf_line}
+use Rattle.script_runner.specs.Faults.{fault_line}
 use Rattle.script_runner.specs.Words.{IsNumber, IsUuidText}
 
 -- the bytes of each word
@@ -101,7 +97,6 @@ code_of Done = 0
 code_of Usage = 1
 code_of (BadScript line kind) = 2
 code_of (NoVolume fault) = 3
-code_of (NoLeaf fault) = 3
 code_of DiskFault = 4
 code_of (ReadFault taken) = 5
 code_of WriteFault = 6
@@ -120,22 +115,9 @@ pub record IsFaultOf (seen : Option Image) (fault : MountFault) : Type 0 where
   pub not_disk : fault ≢ Disk
   pub not_memory : fault ≢ OutOfMemory
 
--- the answer to a fault of a mount of a volume in one leaf (own)
-abbrev pub leaf_status : LeafFault → Status
-leaf_status leaf_faults.Disk = DiskFault
-leaf_status leaf_faults.OutOfMemory = Memory
-leaf_status fault = NoLeaf fault
-
--- A fault that an image has as one of a volume in one leaf, where the disk tells its image; neither the disk's nor out of memory (own).
-pub record IsLeafFaultOf (seen : Option Image) (fault : LeafFault) : Type 0 where
-  pub of_image : IfTold seen (λ image. IsMountFault image fault)
-  pub not_disk : fault ≢ leaf_faults.Disk
-  pub not_memory : fault ≢ leaf_faults.OutOfMemory
-
 -- an answer that a `mkfs`, or words that are no command, may have (own)
 abbrev pub IsOfMkfs : Status → Type 0
 IsOfMkfs (NoVolume fault) = ⊥
-IsOfMkfs (NoLeaf fault) = ⊥
 IsOfMkfs (BadScript line kind) = ⊥
 IsOfMkfs (ReadFault taken) = ⊥
 IsOfMkfs other = Unit {0}
@@ -149,26 +131,14 @@ IsOfScript other = ⊥
 -- an answer that a `list` may have (own)
 abbrev pub IsOfList : Status → Type 0
 IsOfList Usage = ⊥
-IsOfList (NoLeaf fault) = ⊥
 IsOfList MkfsRange = ⊥
 IsOfList (BadScript line kind) = ⊥
 IsOfList (ReadFault taken) = ⊥
 IsOfList other = Unit {0}
 
--- a mount of a volume in one leaf finds no fault in the image (own)
-abbrev pub IsFaultless : Image → Type 0
-IsFaultless image = (fault : LeafFault) → IsMountFault image fault → ⊥
-
 -- the image stands for some volume
 abbrev pub HasVolume : Image → Type 0
 HasVolume image = (volume : Volume) × Stands image volume
-
--- the image stands for a volume in one leaf, by that leaf and no higher tree (own)
-pub record HasOneLeaf (image : Image) : Type 0 where
-  pub volume : Volume
-  pub small : IsOneLeaf volume
-  pub stands : Stands image volume
-  pub flat : IsFlat image
 
 -- the image stands for a volume, and the text is its listing (own)
 abbrev pub IsListing : List ℕ → Image → Type 0
@@ -185,7 +155,6 @@ answer_line Done = []
 answer_line Usage = codes "usage\n"
 answer_line (BadScript line kind) = codes "script " ++ decimal line ++ codes " " ++ kind_word kind ++ codes "\n"
 answer_line (NoVolume fault) = fault_line fault
-answer_line (NoLeaf fault) = leaf_line fault
 answer_line DiskFault = codes "disk\n"
 answer_line (ReadFault taken) = codes "read\n"
 answer_line WriteFault = []

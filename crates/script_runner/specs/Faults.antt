@@ -9,8 +9,6 @@ use Rattle.volume_image.specs.declared.fault.LoadFault.{LoadFault}
 use Rattle.volume_image.specs.declared.fault.LoadFault.TheVariants as load_fault
 use Rattle.blk_base.specs.declared.fault.ItemFault.{ItemFault}
 use Rattle.blk_base.specs.declared.fault.ItemFault.TheVariants as item_fault
-use Rattle.mount_volume.specs.declared.fault.MountFault.{MountFault as LeafFault}
-use Rattle.mount_volume.specs.declared.fault.MountFault.TheVariants as leaf_fault
 use Rattle.tree_mount.specs.declared.fault.MountFault.{MountFault}
 use Rattle.tree_mount.specs.declared.fault.MountFault.TheVariants as mount_fault
 
@@ -75,15 +73,3 @@ fault_words mount_fault.OutOfMemory = codes "memory"
 -- the line of a mount's fault (own)
 abbrev pub fault_line : MountFault → List ℕ
 fault_line fault = codes "volume " ++ fault_words fault ++ codes "\n"
-
--- the words of a fault of a mount of a volume in one leaf (own)
-abbrev pub leaf_words : LeafFault → List ℕ
-leaf_words (leaf_fault.Super fault) = codes "super " ++ super_word fault
-leaf_words (leaf_fault.Load fault) = load_words fault
-leaf_words leaf_fault.OneLeaf = codes "oneleaf"
-leaf_words leaf_fault.Disk = codes "disk"
-leaf_words leaf_fault.OutOfMemory = codes "memory"
-
--- its line (own)
-abbrev pub leaf_line : LeafFault → List ℕ
-leaf_line fault = codes "volume " ++ leaf_words fault ++ codes "\n"

@@ -3,11 +3,11 @@ ghost use Rattle.std.specs.Prelude.{◌≡◌, ◌≤◌, ◌++◌, OnOk, OnErr,
 ghost use Rattle.std.specs.Fmt.{decimal};
 ghost use Rattle.script_text.specs.Kinds.{kind_word};
 ghost use Rattle.io_edge.specs.Edge.{Takes, TakesFront, HasCause};
-ghost use Rattle.mount_volume.specs.Answer.{HasRisen};
+ghost use Rattle.blk_base.specs.Causes.{HasRisen};
 ghost use Rattle.script_runner.specs.Commands.{answer_line};
 
 use crate::Status;
-use crate::fault_text::{put_fault, put_leaf_fault};
+use crate::fault_text::put_fault;
 use io_edge::{Sink, SinkFailed, put, put_all};
 use itoa::Buffer;
 use script_text::ScriptKind;
@@ -35,7 +35,6 @@ pub(crate) fn put_answer<K: Sink>(to: &mut K, status: Status) -> Result<(), Sink
         Status::Usage => put(to, b"usage\n"),
         Status::BadScript { line, kind } => put_script_fault(to, line, kind),
         Status::NoVolume(fault) => put_fault(to, fault),
-        Status::NoLeaf(fault) => put_leaf_fault(to, fault),
         Status::DiskFault => put(to, b"disk\n"),
         Status::ReadFault { .. } => put(to, b"read\n"),
         Status::Memory => put(to, b"memory\n"),

@@ -2,11 +2,11 @@ ghost use Rattle.std.specs.Prelude.{◌≡◌, ◌≤◌, ◌⊎◌, ◌↔◌, 
 ghost use Rattle.disk_model.specs.Disk.{IfTold, known};
 ghost use Rattle.io_edge.specs.Edge.{Takes, TakesFront, HasCause};
 ghost use Rattle.blk_base.specs.Causes.{HasRisen};
-ghost use Rattle.mount_volume.specs.declared.fault.MountFault.{MountFault as LeafFault};
 ghost use Rattle.tree_mount.specs.declared.fault.MountFault.{MountFault};
 ghost use Rattle.script_text.specs.declared.fault.ScriptKind.{ScriptKind};
-ghost use Rattle.script_runner.specs.Run.{IsRunAnswer, outside};
-ghost use Rattle.script_runner.specs.Commands.{IsOfMkfs, AreInRange, HasOneLeaf, HasVolume, IsAnyMkfs, IsCommand, IsDone, IsFaultOf, IsInRange, IsLeafFaultOf, IsList, IsOfScript, IsOutOfRange, IsRun, IsTextOf, IsPut, bytes_of, made_line};
+ghost use Rattle.script_runner.specs.Run.{CrashMounts, HasRunAnswer, outside};
+ghost use Rattle.script_runner.specs.Commands.{IsOfMkfs, AreInRange, HasVolume, IsAnyMkfs, IsCommand, IsDone, IsFaultOf, IsInRange, IsList, IsOfScript};
+ghost use Rattle.script_runner.specs.Commands.{IsOutOfRange, IsRun, IsTextOf, IsPut, bytes_of, made_line};
 ghost use Rattle.volume_mkfs.specs.Made.{CrashLeaves};
 ghost use Rattle.script_runner.specs.Mkfs.{HasVolumeAsked, HasVolumeOf, IsOldOrAsked, IsOldOrMade};
 
@@ -42,28 +42,39 @@ pub fn drive<S: Source, K: Sink, D: Disk>(
     ensures range { (result ≡ Status.MkfsRange) ↔ IsOutOfRange (bytes_of words.now) (D.count disk.old) }
     ensures bad_script { (line : ℕ) (kind : ScriptKind) → (result ≡ Status.BadScript line kind) → IsRun (bytes_of words.now) × (disk.new ≡ disk.old) }
     ensures read_fault { (taken : ℕ) → (result ≡ Status.ReadFault taken) → IsRun (bytes_of words.now) × (disk.new ≡ disk.old) }
-    ensures no_volume { (fault : MountFault) → (result ≡ Status.NoVolume fault) → IsList (bytes_of words.now) × IsFaultOf (known (D.seen disk.old) (D.lost disk.old)) fault }
-    ensures no_leaf { (fault : LeafFault) → (result ≡ Status.NoLeaf fault) → IsRun (bytes_of words.now) × IsLeafFaultOf (known (D.seen disk.old) (D.lost disk.old)) fault }
+    ensures no_volume { (fault : MountFault) → (result ≡ Status.NoVolume fault) → (IsList (bytes_of words.now) ⊎ IsRun (bytes_of words.now))
+        × IsFaultOf (known (D.seen disk.old) (D.lost disk.old)) fault }
     ensures disk_fault { (result ≡ Status.DiskFault) → HasRisen (D.faults disk.old) (D.faults disk.new) }
     ensures write_fault { (result ≡ Status.WriteFault) → HasRisen (K.faults to.old) (K.faults to.new) }
-    ensures complete { IsInRange (bytes_of words.now) (D.count disk.old) → (HasRisen (D.faults disk.old) (D.faults disk.new) → ⊥) → (HasRisen (K.faults to.old) (K.faults to.new) → ⊥)
-        → (result ≡ Status.Done) ⊎ (result ≡ Status.Memory) }
+    ensures complete { IsInRange (bytes_of words.now) (D.count disk.old) → (HasRisen (D.faults disk.old) (D.faults disk.new) → ⊥)
+        → (HasRisen (K.faults to.old) (K.faults to.new) → ⊥) → (result ≡ Status.Done) ⊎ (result ≡ Status.Memory) }
     ensures list_complete { IsList (bytes_of words.now) → IfTold (known (D.seen disk.old) (D.lost disk.old)) (λ image. HasVolume image
-        → (HasRisen (D.faults disk.old) (D.faults disk.new) → ⊥) → (HasRisen (K.faults to.old) (K.faults to.new) → ⊥) → (result ≡ Status.Done) ⊎ (result ≡ Status.Memory)) }
-    ensures run_complete { IsRun (bytes_of words.now) → IfTold (known (D.seen disk.old) (D.lost disk.old)) (λ image. HasOneLeaf image
-        → (HasRisen (D.faults disk.old) (D.faults disk.new) → ⊥) → (HasRisen (K.faults to.old) (K.faults to.new) → ⊥) → (result ≡ Status.Done) ⊎ (result ≡ Status.Memory) ⊎ IsOfScript result) }
+        → (HasRisen (D.faults disk.old) (D.faults disk.new) → ⊥) → (HasRisen (K.faults to.old) (K.faults to.new) → ⊥)
+        → (result ≡ Status.Done) ⊎ (result ≡ Status.Memory)) }
+    ensures run_complete { IsRun (bytes_of words.now) → IfTold (known (D.seen disk.old) (D.lost disk.old)) (λ image. HasVolume image
+        → (HasRisen (D.faults disk.old) (D.faults disk.new) → ⊥) → (HasRisen (K.faults to.old) (K.faults to.new) → ⊥)
+        → (result ≡ Status.Done) ⊎ (result ≡ Status.Memory) ⊎ IsOfScript result) }
 
     // What is left of the source, what the sink was told, and what stays.
     ensures source { (IsRun (bytes_of words.now) → ⊥) → from.new ≡ from.old }
     ensures untouched { (result ≡ Status.Usage) ⊎ (result ≡ Status.MkfsRange) → disk.new ≡ disk.old }
     ensures mkfs_untouched { IsAnyMkfs (bytes_of words.now) → (result ≡ Status.Memory) → disk.new ≡ disk.old }
-    ensures list_untouched { IsList (bytes_of words.now) → (D.seen disk.new ≡ D.seen disk.old) × (D.lost disk.new ≡ D.lost disk.old) × (D.told disk.new ≡ D.told disk.old) }
-    ensures text { (IsRun (bytes_of words.now) → ⊥) → (text : List ℕ) × IsTextOf (bytes_of words.now) (known (D.seen disk.old) (D.lost disk.old)) result text × IsPut result text (K.taken to.old) (K.taken to.new) (K.faults to.old) (K.faults to.new) }
+    ensures list_untouched { IsList (bytes_of words.now)
+        → (D.seen disk.new ≡ D.seen disk.old) × (D.lost disk.new ≡ D.lost disk.old) × (D.told disk.new ≡ D.told disk.old) }
+    ensures text { (IsRun (bytes_of words.now) → ⊥) → (text : List ℕ)
+        × IsTextOf (bytes_of words.now) (known (D.seen disk.old) (D.lost disk.old)) result text
+        × IsPut result text (K.taken to.old) (K.taken to.new) (K.faults to.old) (K.faults to.new) }
 
     // What a run of a script answers, what it writes, and what a crash at any moment leaves.
-    ensures run { IsRun (bytes_of words.now) → (text : List ℕ) × IsPut result text (K.taken to.old) (K.taken to.new) (K.faults to.old) (K.faults to.new)
-        × IsRunAnswer (record { left = S.left from.old; faults = S.faults from.old }) (record { left = S.left from.new; faults = S.faults from.new })
-        (outside (known (D.seen disk.old) (D.lost disk.old)) (D.told disk.old) (K.taken to.old) (D.faults disk.old) (K.faults to.old)) (outside (known (D.seen disk.new) (D.lost disk.new)) (D.told disk.new) (K.taken to.new) (D.faults disk.new) (K.faults to.new)) result text }
+    ensures run { IsRun (bytes_of words.now) → HasRunAnswer
+        (record { left = S.left from.old; faults = S.faults from.old }) (record { left = S.left from.new; faults = S.faults from.new })
+        (outside (known (D.seen disk.old) (D.lost disk.old)) (D.told disk.old) (K.taken to.old) (D.faults disk.old) (K.faults to.old))
+        (outside (known (D.seen disk.new) (D.lost disk.new)) (D.told disk.new) (K.taken to.new) (D.faults disk.new) (K.faults to.new)) result }
+
+    // Where the disk stands for a volume when a run begins, no block is lost then, and a crash would leave the superblock that is
+    // read and all that it reaches: at every moment each image that a crash may leave mounts to a volume that survives what
+    // happened until then.
+    ensures run_crash { IsRun (bytes_of words.now) → CrashMounts (D.told disk.old) (D.told disk.new) }
 
     // What is on the disk once a volume was made, and what a crash at any moment leaves.
     ensures made { IsAnyMkfs (bytes_of words.now) → IsDone result → IfTold (D.seen disk.new) (HasVolumeAsked (bytes_of words.now)) }

@@ -2,13 +2,12 @@
 ghost use Rattle.std.specs.Prelude.{◌≡◌, ◌++◌, OnOk, OnErr, codes};
 ghost use Rattle.std.specs.Fmt.{decimal};
 ghost use Rattle.io_edge.specs.Edge.{Takes, TakesFront, HasCause};
-ghost use Rattle.script_runner.specs.Faults.{super_word, block_word, load_words, item_word, fault_line, leaf_line};
+ghost use Rattle.script_runner.specs.Faults.{super_word, block_word, load_words, item_word, fault_line};
 ghost use Rattle.tree_mount.specs.declared.fault.MountFault.TheVariants as mount_fault;
 
 use blk_base::{Addr, BlockFault, ItemFault, Key, SuperFault};
 use io_edge::{Sink, SinkFailed, put_all};
 use itoa::Buffer;
-use mount_volume::MountFault as LeafFault;
 use tree_mount::MountFault;
 use volume_image::LoadFault;
 
@@ -173,20 +172,5 @@ pub(crate) fn put_fault<K: Sink>(to: &mut K, fault: MountFault) -> Result<(), Si
         MountFault::NoRoom { free, need } => put_two(to, "volume noroom ", free, need),
         MountFault::Disk => put_all(to, &["volume disk\n"]),
         MountFault::OutOfMemory => put_all(to, &["volume memory\n"]),
-    }
-}
-
-/// Writes the line of a fault of a mount of a volume in one leaf.
-pub(crate) fn put_leaf_fault<K: Sink>(to: &mut K, fault: LeafFault) -> Result<(), SinkFailed>
-    ensures whole { OnOk result (Takes (K.taken to.old) (leaf_line fault) (K.taken to.new)) }
-    ensures front { OnErr result (TakesFront (K.taken to.old) (leaf_line fault) (K.taken to.new)) }
-    ensures cause { HasCause (K.faults to.old) (K.faults to.new) result }
-{
-    match fault {
-        LeafFault::Super(check) => put_all(to, &["volume super ", super_word(check), "\n"]),
-        LeafFault::Load(fault) => put_load_fault(to, fault),
-        LeafFault::OneLeaf => put_all(to, &["volume oneleaf\n"]),
-        LeafFault::Disk => put_all(to, &["volume disk\n"]),
-        LeafFault::OutOfMemory => put_all(to, &["volume memory\n"]),
     }
 }

@@ -16,7 +16,7 @@ use tree_listing::{ListFault, write_tree_listing};
 use tree_mount::{MountFault, Mounted, mount};
 
 /// The answer to a fault of a mount.
-fn status_of(fault: MountFault) -> Status
+pub(crate) fn status_of(fault: MountFault) -> Status
     ensures { result ≡ status_of fault }
 {
     match fault {
@@ -31,7 +31,8 @@ fn print<K: Sink>(alloc: Global, mounted: &Mounted, to: &mut K) -> Status
     requires given { (run : RunVolume) × GiveVolume mounted.now.table mounted.now.states.items run }
     ensures answer { (result ≡ Status.Done) ⊎ (result ≡ Status.WriteFault) ⊎ (result ≡ Status.Memory) }
     ensures text { (run : RunVolume) → GiveVolume mounted.now.table mounted.now.states.items run
-        → (text : List ℕ) × IsListAnswer (volume_of run) result text × IsPut result text (K.taken to.old) (K.taken to.new) (K.faults to.old) (K.faults to.new) }
+        → (text : List ℕ) × IsListAnswer (volume_of run) result text
+        × IsPut result text (K.taken to.old) (K.taken to.new) (K.faults to.old) (K.faults to.new) }
     ensures write_fault { (result ≡ Status.WriteFault) → HasRisen (K.faults to.old) (K.faults to.new) }
     ensures counted { K.faults to.old ≤ K.faults to.new }
 {
@@ -49,9 +50,11 @@ pub(crate) fn list<K: Sink, D: Disk>(alloc: Global, to: &mut K, disk: &mut D) ->
     ensures disk_fault { (result ≡ Status.DiskFault) → HasRisen (D.faults disk.old) (D.faults disk.new) }
     ensures write_fault { (result ≡ Status.WriteFault) → HasRisen (K.faults to.old) (K.faults to.new) }
     ensures complete { IfTold (known (D.seen disk.old) (D.lost disk.old)) (λ image. HasVolume image
-        → (HasRisen (D.faults disk.old) (D.faults disk.new) → ⊥) → (HasRisen (K.faults to.old) (K.faults to.new) → ⊥) → (result ≡ Status.Done) ⊎ (result ≡ Status.Memory)) }
+        → (HasRisen (D.faults disk.old) (D.faults disk.new) → ⊥) → (HasRisen (K.faults to.old) (K.faults to.new) → ⊥)
+        → (result ≡ Status.Done) ⊎ (result ≡ Status.Memory)) }
 
-    ensures text { (text : List ℕ) × IsListText (known (D.seen disk.old) (D.lost disk.old)) result text × IsPut result text (K.taken to.old) (K.taken to.new) (K.faults to.old) (K.faults to.new) }
+    ensures text { (text : List ℕ) × IsListText (known (D.seen disk.old) (D.lost disk.old)) result text
+        × IsPut result text (K.taken to.old) (K.taken to.new) (K.faults to.old) (K.faults to.new) }
     ensures seen { D.seen disk.new ≡ D.seen disk.old }
     ensures lost { D.lost disk.new ≡ D.lost disk.old }
     ensures told { D.told disk.new ≡ D.told disk.old }

@@ -1,7 +1,6 @@
 ghost use Rattle.std.specs.Prelude.{◌≡◌};
 ghost use Rattle.script_runner.specs.Commands.{code_of};
 
-use mount_volume::MountFault as LeafFault;
 use script_text::ScriptKind;
 use tree_mount::MountFault;
 
@@ -16,8 +15,6 @@ pub enum Status {
     BadScript { line: u32, kind: ScriptKind },
     /// The disk has no volume that can be mounted.
     NoVolume(MountFault),
-    /// The disk has no volume in one leaf, the only kind on which scripts are run so far.
-    NoLeaf(LeafFault),
     /// The disk failed.
     DiskFault,
     /// The source failed, or has more than 16 MiB. `taken`: the bytes that it gave.
@@ -39,7 +36,7 @@ impl Status {
             Status::Done => 0,
             Status::Usage => 1,
             Status::BadScript { .. } => 2,
-            Status::NoVolume(_) | Status::NoLeaf(_) => 3,
+            Status::NoVolume(_) => 3,
             Status::DiskFault => 4,
             Status::ReadFault { .. } => 5,
             Status::WriteFault => 6,

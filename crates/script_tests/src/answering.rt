@@ -1,13 +1,13 @@
 use blk_base::{Ino, Text};
 use flat_model::{Answer, Reason};
 use io_edge::{MemorySink, SinkFailed};
-use script_answer::{FirstAnswer, put_answer, put_done};
+use script_answer::{put_answer, put_done};
 use std::alloc::Global;
 use std::test::Fail;
 
 /// Adds the line of caller 7 with this answer.
 fn add(to: &mut MemorySink, answer: Answer) -> Result<(), Fail> {
-    put_answer(to, 7, &FirstAnswer::Answer(answer))?;
+    put_answer(to, 7, &answer)?;
     Ok(())
 }
 
@@ -45,7 +45,7 @@ fn refused(alloc: Global) -> Result<MemorySink, Fail> {
     add(&mut to, Answer::Collide)?;
     add(&mut to, Answer::NoSpace { free: 0, need: 12 })?;
     add(&mut to, Answer::Io)?;
-    put_answer(&mut to, 16, &FirstAnswer::OneLeaf)?;
+    put_answer(&mut to, 16, &Answer::Plain)?;
     put_done(&mut to, 14)?;
     Ok(to)
 }
@@ -77,7 +77,7 @@ const REFUSED: &[u8] = b"7 xdev
 7 collide
 7 nospace 0 12
 7 io
-16 oneleaf
+16 ok
 done 14
 ";
 
@@ -91,7 +91,7 @@ fn answers_have_their_words(rt: HostRuntime) -> Result<(), Fail> {
 #[test]
 fn a_sink_that_fails_ends_a_line(rt: HostRuntime) -> Result<(), Fail> {
     let mut to = MemorySink::new(rt.alloc(), &[3])?;
-    let answer = FirstAnswer::Answer(Answer::Full);
+    let answer = Answer::Full;
     assert_eq!(rt; put_answer(&mut to, 7, &answer), Err(SinkFailed));
     assert_eq!(rt; put_done(&mut to, 1), Ok(()));
     Ok(())

@@ -1,11 +1,12 @@
 use blk_base::{
-    Addr, Block, BlockFault, SuperFault, crc32c, name_hash, put_bytes, put_u16, put_u32, put_u64,
+    Addr, Block, BlockFault, ItemFault, Key, SuperFault, crc32c, name_hash, put_bytes, put_u16,
+    put_u32, put_u64,
 };
 use disk_memory::ListDisk;
 use item_inode::InodeItem;
-use mount_volume::{MountFault, mount};
 use std::alloc::Global;
 use std::test::Fail;
+use tree_mount::{MountFault, mount};
 use volume_format::{RootItem, Super};
 use volume_image::LoadFault;
 
@@ -174,8 +175,8 @@ fn mounts_a_file_of_one_block(rt: HostRuntime) -> Result<(), Fail> {
     let mut disk = disk(rt.alloc(), Wrong::Nothing)?;
     match mount(rt.alloc(), &mut disk) {
         Ok(mounted) => {
-            assert_eq!(rt; mounted.reach.len(), 3);
-            assert_eq!(rt; mounted.reach.last().copied(), Some(Addr(81920)));
+            assert_eq!(rt; mounted.states.len(), 1);
+            assert_eq!(rt; mounted.root.root, Addr(69632));
             assert_eq!(rt; mounted.superblock.generation, 7);
         }
         Err(_) => assert!(rt; false),
@@ -185,10 +186,18 @@ fn mounts_a_file_of_one_block(rt: HostRuntime) -> Result<(), Fail> {
 
 #[test]
 fn names_what_is_wrong(rt: HostRuntime) -> Result<(), Fail> {
+    let other = Key {
+        objectid: 6,
+        kind: 132,
+        offset: 0,
+    };
     let broken = LoadFault::Block(Addr(73728), BlockFault::Checksum);
     let rows = [
-        (Wrong::Log, MountFault::OneLeaf),
-        (Wrong::Root, MountFault::OneLeaf),
+        (Wrong::Log, MountFault::Log),
+        (
+            Wrong::Root,
+            MountFault::Item(Addr(69632), other, ItemFault::Kind),
+        ),
         (Wrong::Sub, MountFault::Load(broken)),
         (Wrong::Super, MountFault::Super(SuperFault::Magic)),
         (Wrong::Disk, MountFault::Disk),

@@ -43,18 +43,22 @@ fn list<D: Disk>(alloc: Global, disk: &mut D) -> Result<(Status, MemorySink), Fa
     Ok((status, to))
 }
 
-/// A disk with an empty volume of 4096 blocks, whose device calls with these numbers fail, from 1; the volume was made by the first
-/// four.
-fn made_failing(alloc: Global, fails: &[u64]) -> Result<MemoryDisk, Fail> {
+/// A disk with an empty volume of 4096 blocks and so many subvolumes, whose device calls with these numbers fail, from 1.
+fn made_of(alloc: Global, subs: &str, fails: &[u64]) -> Result<MemoryDisk, Fail> {
     let mut disk = MemoryDisk::new(alloc, 4096, 64, fails)?;
     let mut words = Vec::new(alloc);
-    for word in ["mkfs", FSID, "4096", "1"] {
+    for word in ["mkfs", FSID, "4096", subs] {
         words.push(String::from_str(alloc, word)?)?;
     }
     let mut from = MemorySource::new(alloc, b"", &[])?;
     let mut to = MemorySink::new(alloc, &[])?;
     drive(alloc, &words, &mut from, &mut to, &mut disk);
     Ok(disk)
+}
+
+/// The same with one subvolume: the volume was made by the first four device calls.
+fn made_failing(alloc: Global, fails: &[u64]) -> Result<MemoryDisk, Fail> {
+    made_of(alloc, "1", fails)
 }
 
 /// A disk with an empty volume of 4096 blocks, whose device calls from the one behind so many on fail.
@@ -67,7 +71,7 @@ fn made(alloc: Global, calls: u64) -> Result<MemoryDisk, Fail> {
 /// More device calls than any of these scripts makes.
 const ALL: u64 = 1000;
 
-/// Twelve files, of which eleven fit a leaf with one extent.
+/// Twelve files, whose items don't fit one leaf.
 const TWELVE: &[u8] = b"1 create /a
 1 create /b
 1 create /c
@@ -97,14 +101,32 @@ const TWELVE_TEXT: &str = "1 ok 257
 1 ok 265
 1 ok 266
 1 ok 267
-1 oneleaf
+1 ok 268
 1 ok 1
-1 oneleaf
+1 ok 1
 1 ok sync
 done 15
 ";
 
-/// Other verbs, on files that fit a leaf.
+/// The listing of the volume that `TWELVE` leaves; the first sum is that of the byte `x`.
+const TWELVE_LEFT: &[u8] = b"sub 5
+256 dir 1 24 - /
+257 file 1 1 a93c5f93 /a
+258 file 1 1 a93c5f93 /b
+259 file 1 0 00000000 /c
+260 file 1 0 00000000 /d
+261 file 1 0 00000000 /e
+262 file 1 0 00000000 /f
+263 file 1 0 00000000 /g
+264 file 1 0 00000000 /h
+265 file 1 0 00000000 /i
+266 file 1 0 00000000 /j
+267 file 1 0 00000000 /k
+268 file 1 0 00000000 /l
+done 13
+";
+
+/// Other verbs.
 const VERBS: &[u8] = b"1 create /a
 1 write /a 0 hi
 2 read /a 0 9
@@ -138,14 +160,14 @@ const VERBS_TEXT: &str = "1 ok 257
 1 ok 3
 1 ok hxxx
 1 ok
-1 oneleaf
-1 oneleaf
-1 noattr
+1 ok 258
+1 ok
+1 ok v
 1 exists
 1 xdev
 1 loop
 1 notdir
-1 ok 258
+1 ok 259
 1 ok
 1 noent
 1 noent
@@ -154,7 +176,53 @@ done 21
 ";
 
 /// The listing of the volume that `VERBS` leaves; the sum is that of the bytes `hx`.
-const VERBS_LEFT: &[u8] = b"sub 5\n256 dir 1 2 - /\n257 file 1 2 17a89dae /b\ndone 2\n";
+const VERBS_LEFT: &[u8] =
+    b"sub 5\n256 dir 1 4 - /\n257 file 1 2 17a89dae /b\n attr user.k v\n258 dir 1 0 - /d\ndone 3\n";
+
+/// Names that are refused, each for its reason.
+const NAMES: &[u8] = b"1 mkdir /d
+1 create /d/x
+1 rmdir /d
+1 unlink /d
+1 create /d/x
+1 create /e/x
+1 create /d/x/y
+1 rename /d /d/z
+1 link /d/x 256:/x
+1 delattr /d/x user.k
+1 symlink /s d/x
+1 write /s 0 q
+1 unlink /d/x
+1 rmdir /d
+";
+
+/// The text of `NAMES`.
+const NAMES_TEXT: &str = "1 ok 257
+1 ok 258
+1 notempty
+1 isdir
+1 exists
+1 noent
+1 notdir
+1 loop
+1 xdev
+1 noattr
+1 ok 259
+1 loop
+1 ok
+1 ok
+done 14
+";
+
+/// A file up to the greatest size.
+const LARGEST: &[u8] = b"1 create /a
+1 fill /a 16711680 65536 7
+1 write /a 16777216 x
+1 truncate /a 16777217
+";
+
+/// The text of `LARGEST`.
+const LARGEST_TEXT: &str = "1 ok 257\n1 ok 65536\n1 toolarge\n1 toolarge\ndone 4\n";
 
 #[test]
 fn a_script_has_its_text_and_its_volume(rt: HostRuntime) -> Result<(), Fail> {
@@ -162,6 +230,9 @@ fn a_script_has_its_text_and_its_volume(rt: HostRuntime) -> Result<(), Fail> {
         (SYNCED, "1 ok 257\n1 ok 2\n1 ok sync\ndone 3\n", WRITTEN),
         (b"".as_slice(), "done 0\n", EMPTY),
         (VERBS, VERBS_TEXT, VERBS_LEFT),
+        (NAMES, NAMES_TEXT, EMPTY),
+        (TWELVE, TWELVE_TEXT, TWELVE_LEFT),
+        (LARGEST, LARGEST_TEXT, EMPTY),
         (
             b"# a file\n\n16 create /a".as_slice(),
             "16 ok 257\ndone 1\n",
@@ -177,9 +248,30 @@ fn a_script_has_its_text_and_its_volume(rt: HostRuntime) -> Result<(), Fail> {
         assert_eq!(rt; status, Status::Done);
         assert_eq!(rt; listed.bytes(), listing);
     }
-    let mut disk = made(rt.alloc(), ALL)?;
-    let (_, told) = run(rt.alloc(), TWELVE, &mut disk)?;
-    assert_eq!(rt; told.bytes(), TWELVE_TEXT.as_bytes());
+    Ok(())
+}
+
+/// The listing of a volume of two subvolumes, each of one file.
+const TWO_LEFT: &[u8] = b"sub 5
+256 dir 1 2 - /
+257 file 1 0 00000000 /a
+sub 256
+256 dir 1 2 - /
+257 file 1 2 f59dd9c2 /b
+done 4
+";
+
+#[test]
+fn a_script_runs_on_two_subvolumes(rt: HostRuntime) -> Result<(), Fail> {
+    let mut disk = made_of(rt.alloc(), "2", &[])?;
+    let script = b"1 create /a\n2 create 256:/b\n1 write 256:/b 0 hi\n2 sync\n";
+    let (_, told) = run(rt.alloc(), script, &mut disk)?;
+    assert_eq!(rt;
+        told.bytes(),
+        b"1 ok 257\n2 ok 257\n1 ok 2\n2 ok sync\ndone 4\n".as_slice()
+    );
+    let (_, listed) = list(rt.alloc(), &mut disk)?;
+    assert_eq!(rt; listed.bytes(), TWO_LEFT);
     Ok(())
 }
 

@@ -31,6 +31,13 @@ impl Script {
     {
         self.lines.as_slice()
     }
+
+    /// The lines that do something, in their order, by value.
+    pub fn into_lines(self) -> Vec<Line>
+        ensures { result.items ≡ self }
+    {
+        self.lines
+    }
 }
 
 /// The script that the bytes are, or its first fault: the first line that has one, and in a line the kinds in the order

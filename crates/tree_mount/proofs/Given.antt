@@ -83,7 +83,7 @@ range_low : (a n x : ℕ) → Contains (range_with_len a n) x → a ≤ x
 range_low a zero x c = absurd (in_nothing x c)
 range_low a (suc n) x c = elim (in_cons a x (range_with_len (a + 1) n) c) [ inl here ↦ omega arith | inr there ↦ let low = range_low (a + 1) n x there in omega arith ]
 
-range_once : (a n : ℕ) → StandOnce (range_with_len a n)
+pub range_once : (a n : ℕ) → StandOnce (range_with_len a n)
 range_once a zero = tt
 range_once a (suc n) = ((λ c. let low = range_low (a + 1) n a c in omega arith), range_once (a + 1) n)
 
@@ -288,6 +288,9 @@ module _ (super : SuperValue) (mid new : Table) (wants : List Want) (loaded : Ar
 
   pub root_stands : IsTree new (tree_wanted (root_want super))
   root_stands = (kept (root_want super) (head_in (root_want super) wants)).tree
+
+  pub root_items : items_of new (root_want super) ≡ items_of mid (root_want super)
+  root_items = (kept (root_want super) (head_in (root_want super) wants)).items
 
   subs_once : NoneTwice (subs_reach new wants)
   subs_once = (none_twice_parts (reach_of new (root_want super)) (subs_reach new wants) each_once).1

@@ -219,3 +219,10 @@ read_by super mid want tree wants is tree_is read = subst (λ (w : Want). AreRoo
 
 pub unread_by : (super : SuperValue) (mid : Table) (want : Want) (tree : Tree) (fault : MountFault) → want ≡ root_want super → tree ≡ tree_wanted want → IsRootsFault mid tree.level tree.root.0 fault → IsRootsFault mid (root_want super).level (root_want super).at.0 fault
 unread_by super mid want tree fault is tree_is h = subst (λ (w : Want). IsRootsFault mid w.level w.at.0 fault) is (subst (λ (t : Tree). IsRootsFault mid t.level t.root.0 fault) tree_is h)
+
+-- the root tree's items stay while the trees of subvolumes are loaded behind it
+pub read_later : (super : SuperValue) (mid new : Table) (wants : List Want) → AreLoaded (empty_table super.blocks) mid (root_want super ∷ []) → AreLoaded mid new wants → AreRootsRead super (items_of mid (root_want super)) wants
+    → AreRootsRead super (items_of new (root_want super)) wants
+read_later super mid new wants loaded later read =
+    let kept = kept_by false mid new (root_want super) (wants_reach new wants) later.load (loaded.each (root_want super) (head_in (root_want super) [])) in
+    subst (λ (l : List Item). AreRootsRead super l wants) (sym kept.items) read

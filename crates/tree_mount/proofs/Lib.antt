@@ -11,4 +11,6 @@ mod Counting
 mod Given
 mod Standing
 mod Running
+mod RootSize
+mod Spared
 mod Ready

@@ -53,7 +53,7 @@ wants_cut super [] (root ∷ roots) = refl
 wants_cut super (id ∷ ids) [] = refl
 wants_cut super (id ∷ ids) (root ∷ roots) = ap (λ (l : List Want). sub_want super id root ∷ l) (wants_cut super ids roots)
 
-wants_long : (super : SuperValue) (ids : List ℕ) (roots : List RootValue) → length ids ≡ length roots → length (sub_wants super ids roots) ≡ length roots
+pub wants_long : (super : SuperValue) (ids : List ℕ) (roots : List RootValue) → length ids ≡ length roots → length (sub_wants super ids roots) ≡ length roots
 wants_long super [] [] e = refl
 wants_long super [] (root ∷ roots) e = absurd (omega arith)
 wants_long super (id ∷ ids) [] e = absurd (omega arith)

@@ -1,5 +1,5 @@
 -- What a mount answers, and what is known of the volume while it is read.
-use Rattle.std.specs.Prelude.{◌≡◌, ◌⊎◌, ◌≤◌, ◌++◌, ℕ, false, List, ◌∷◌, length, map, All, Contains, true, None, Ok}
+use Rattle.std.specs.Prelude.{◌≡◌, ◌⊎◌, ◌≤◌, ◌<◌, ◌++◌, ℕ, false, List, ◌∷◌, length, map, All, Contains, true, None, Ok}
 use Rattle.blk_base.specs.declared.format.TheConstants.{ROOT_TREE}
 use Rattle.blk_base.specs.declared.key.Want.{Want}
 use Rattle.blk_base.specs.Superblock.{SuperValue}
@@ -46,8 +46,10 @@ pub record IsMountedAs (image : Image) (m : Mounted) : Type 0 where
   pub stands : StandsBy image (volume_in image found) (mount_reach m)
 
 -- What holds of a mounted volume on every disk of so many blocks: the states give a coherent volume as its run begins, of the
--- next generation; all trees stand with right headers, so that they may be sealed; the blocks in use are there as the device
--- has them, each once, and no other; and enough are free (own).
+-- next generation; all trees stand with right headers, so that they may be sealed; a root tree of more than eight subvolumes,
+-- as many root items as a leaf has room for, has a node and two leaves at least, and each root tree has 33 blocks at most
+-- ("ROOT_ITEM"); the blocks in use are there as the device has them, each once, and no other; and enough are free, and enough
+-- buffers spare (own).
 pub record IsReadyMount (m : Mounted) (count : ℕ) : Type 0 where
   pub least : 4096 ≤ m.superblock.blocks
   pub most : m.superblock.blocks ≤ 65536
@@ -65,12 +67,15 @@ pub record IsReadyMount (m : Mounted) (count : ℕ) : Type 0 where
   pub root : IsTree m.table m.root
   pub owner : m.root.owner ≡ ROOT_TREE
   pub sealed : IsSealedTree m.table m.root m.superblock.fsid m.superblock.generation
+  pub root_few : length (tree_reach m.table m.root) ≤ 33
+  pub root_many : 8 < length m.states.items → 3 ≤ length (tree_reach m.table m.root)
   pub once : NoneTwice (mount_reach m)
   pub accounted : AreAccounted m.table (mount_reach m)
   pub live : (at : ℕ) → ((block_at m.table at).state ≡ Free) ⊎ ((block_at m.table at).state ≡ Live)
   pub back : (at : ℕ) → (block_at m.table at).out ≡ false
   pub lists : m.table.lists ≡ 34
   pub room : mount_need ≤ free_of m.superblock.blocks (length (mount_reach m))
+  pub spare : 80 ≤ m.table.spare
 
 -- ---- while it is read
 

@@ -10,8 +10,9 @@ ghost use Rattle.volume_format.specs.Views.{super_view};
 ghost use Rattle.volume_image.specs.Roots.{root_want};
 ghost use Rattle.tree_mount.specs.Checks.{IsCheckable};
 ghost use Rattle.tree_mount.specs.Faults.{HasSuper, IsToldFault};
-ghost use Rattle.tree_mount.specs.Mounted.{AreSubWants, AreWhole, IsMountedAs, IsReadyMount, IsRunState, LeadsToTrees, LeadsToVolume};
-ghost use Rattle.tree_mount.specs.Trees.{AreLoaded};
+ghost use Rattle.tree_mount.specs.Mounted.{AreWhole, IsMountedAs, IsReadyMount, IsRunState, LeadsToTrees, LeadsToVolume};
+ghost use Rattle.tree_mount.specs.Roots.{AreRootsRead};
+ghost use Rattle.tree_mount.specs.Trees.{AreLoaded, items_of};
 
 use crate::checks::{check_inodes, check_items, read_data};
 use crate::room::check_room;
@@ -26,6 +27,9 @@ use disk_model::Disk;
 use std::alloc::Global;
 use volume_format::Super;
 
+/// The buffers that a mount makes spare at least, for the root trees of commits (own).
+const SPARE: u32 = 80;
+
 /// Loads the root tree and the trees of the subvolumes into an empty table, and answers how the latter are read.
 fn load_volume<D: Disk>(
     alloc: Global,
@@ -38,7 +42,7 @@ fn load_volume<D: Disk>(
     requires spelled { IfTold (known (D.seen disk.old) (D.lost disk.old)) (λ image. HasSuper image (super_view superblock.now)) }
     requires no_log { superblock.now.log_root.0 ≡ 0 }
     ensures loaded { IfOk result (λ wants. AreLoaded table.old table.new (root_want (super_view superblock.now) ∷ wants.items)) }
-    ensures ids { IfOk result (λ wants. AreSubWants (super_view superblock.now) wants.items) }
+    ensures read { IfOk result (λ wants. AreRootsRead (super_view superblock.now) (items_of table.new (root_want (super_view superblock.now))) wants.items) }
     ensures found { IfOk result (λ wants. IfTold (known (D.seen disk.old) (D.lost disk.old))
         (λ image. LeadsToTrees image (super_view superblock.now) table.new wants.items)) }
     ensures fault { IfErr result (IsToldFault (known (D.seen disk.old) (D.lost disk.old))) }
@@ -107,8 +111,9 @@ fn run_states(
 ///
 /// `Ok`: where the disk tells its image, the image stands for the volume that the states give. Whatever it tells, that volume
 /// is coherent and as its run begins, in the generation after the superblock's, and 1 to 16 subvolumes have it; it has 4096
-/// to 65,536 blocks, all of them on the disk; the table has each block in use once, and no other; and 116 blocks are free
-/// beside 82 that are kept back.
+/// to 65,536 blocks, all of them on the disk; its root tree has 33 blocks at most, and 3 at least where there are more than
+/// 8 subvolumes; the table has each block in use once, and no other; 116 blocks are free beside 82 that are kept back, and
+/// 80 buffers or more are spare.
 ///
 /// # Errors
 ///
@@ -137,6 +142,7 @@ pub fn mount<D: Disk>(alloc: Global, disk: &mut D) -> Result<Mounted, MountFault
     let running = superblock.generation.wrapping_add(1);
     let states = run_states(alloc, &table, &wants, running)?;
     let root = tree_wanted(&root_want(&superblock));
+    table.reserve(alloc, SPARE)?;
     Ok(Mounted {
         table,
         states,

@@ -37,7 +37,8 @@ use Rattle.table_volume.proofs.SubEdits.{sub_more}
 use Rattle.table_volume.proofs.Volumes.{volume_given}
 use Rattle.volume_seal.specs.Sealed.{IsReady, states_reach}
 use Rattle.volume_seal.proofs.States.{all_taken, alike_tree, operated_ready, ready_alike, same_tree}
-use Rattle.volume_ops.specs.Done.{AreNextOf, IsDone, IsNextOf, most_in, most_of}
+use Rattle.volume_ops.specs.Done.{AreNextOf, IsDone, IsNextOf, most_in, most_of, newest_indexes}
+use Rattle.volume_ops.specs.Needs.{next_indexes}
 use Rattle.volume_ops.proofs.Required.{answer_is, comes_to, needs_none}
 
 -- what takes so many blocks at most takes more at most
@@ -84,20 +85,21 @@ next_joined old new (b ∷ befores) (a ∷ afters) before after front back = (fr
 
 -- ---- nothing changes
 
-module _ (table : Table) (states : List SubState) (run : RunVolume) (op : Op) (answer : Answer) (volume : GiveVolume table states run) (comes : step run op [] ≡ volume_unchanged run answer) where
+module _ (table : Table) (states : List SubState) (run : RunVolume) (op : Op) (answer : Answer) (volume : GiveVolume table states run) (comes : (chosen : List ℕ) → step run op chosen ≡ volume_unchanged run answer) where
   none_made : AreNextIndexes (numbers_in run (place_of op).sub.0) (step run op []).made
-  none_made = subst (λ (o : VolumeOutcome). AreNextIndexes (numbers_in run (place_of op).sub.0) o.made) (sym comes) tt
+  none_made = subst (λ (o : VolumeOutcome). AreNextIndexes (numbers_in run (place_of op).sub.0) o.made) (sym (comes [])) tt
 
   shown : IsChoice run op (indexes_of (step run op []).made) × (step run op (indexes_of (step run op []).made) ≡ step run op [])
   shown = step_shown run op [] (volume_sound table states run volume) none_made
 
   whole : step run op (indexes_of (step run op []).made) ≡ volume_unchanged run answer
-  whole = shown.1 ∙ comes
+  whole = shown.1 ∙ comes []
 
   pub unchanged_done : IsDone table table states states run op answer
   unchanged_done = record {
     indexes = indexes_of (step run op []).made;
     choice = shown.0;
+    newest = ap (λ (o : VolumeOutcome). indexes_of o.made) (comes [] ∙ sym (comes (newest_indexes run op)));
     said = sym (ap (λ (o : VolumeOutcome). o.answer) whole);
     given = subst (GiveVolume table states) (sym (ap (λ (o : VolumeOutcome). o.next) whole)) volume;
     taken = record { spare = omega arith; free = omega arith };
@@ -112,13 +114,13 @@ module _ (table : Table) (states : List SubState) (run : RunVolume) (op : Op) (a
 pub across_done : (table : Table) (states : List SubState) (run : RunVolume) (op : Op) → GiveVolume table states run → is_within_sub op ≡ false → IsDone table table states states run op Xdev
 unfolding step
 across_done table states run op volume across =
-    unchanged_done table states run op Xdev volume (ap (λ (b : Bool). cond b (outcome_within run op []) (volume_unchanged run Xdev)) across)
+    unchanged_done table states run op Xdev volume (λ chosen. ap (λ (b : Bool). cond b (outcome_within run op chosen) (volume_unchanged run Xdev)) across)
 
 pub nowhere_done : (table : Table) (states : List SubState) (run : RunVolume) (op : Op) → GiveVolume table states run → is_within_sub op ≡ true → get run (place_of op).sub.0 ≡ None → IsDone table table states states run op NoEnt
 unfolding step
 nowhere_done table states run op volume within none =
-    unchanged_done table states run op NoEnt volume (ap (λ (b : Bool). cond b (outcome_within run op []) (volume_unchanged run Xdev)) within
-    ∙ ap (λ (o : Option RunSub). elim o [ None ↦ volume_unchanged run NoEnt | Some s ↦ with_outcome run (place_of op).sub.0 (outcome_of s op []) ]) none)
+    unchanged_done table states run op NoEnt volume (λ chosen. ap (λ (b : Bool). cond b (outcome_within run op chosen) (volume_unchanged run Xdev)) within
+    ∙ ap (λ (o : Option RunSub). elim o [ None ↦ volume_unchanged run NoEnt | Some s ↦ with_outcome run (place_of op).sub.0 (outcome_of s op chosen) ]) none)
 
 -- ---- one subvolume changes
 
@@ -128,7 +130,7 @@ part_at table lefts rights state run volume =
     All-head (GivesPart table run) state rights (All-right (GivesPart table run) lefts (state ∷ rights) volume.each)
 
 module _ (old new : Table) (lefts rights : List SubState) (before after : SubState) (run : RunVolume) (op : Op) (answer : Answer) (indexes : List ℕ) (volume : GiveVolume old (lefts ++ before ∷ rights) run) (owner : id_of before ≡ (place_of op).sub.0) (within : is_within_sub op ≡ true)
-    (idle : least_need op ≡ 0 → (new ≡ old) × (after ≡ before))
+    (next : indexes ≡ next_indexes before) (idle : least_need op ≡ 0 → (new ≡ old) × (after ≡ before))
     (operated : (sub : RunSub) → GivesRun old before sub → IsOperated old new before after sub (outcome_of sub op indexes) answer (512 + 2 * removed_from sub.sub op)) where
   part : GivesPart old run before
   part = part_at old lefts rights before run volume
@@ -141,6 +143,14 @@ module _ (old new : Table) (lefts rights : List SubState) (before after : SubSta
 
   comes : step run op indexes ≡ with_outcome run (place_of op).sub.0 (outcome_of part.sub op indexes)
   comes = comes_to run part.sub op indexes there within
+
+  -- they are the next ones above all that the subvolume has had
+  newest : indexes ≡ newest_indexes run op
+  newest =
+      next
+      ∙ ap (λ (n : ℕ). n ∷ (n + 1) ∷ []) part.gives.next_index
+      ∙ ap (λ (n : ℕ). (part.sub.numbers.last_index + 1) ∷ n ∷ []) (omega arith)
+      ∙ ap (λ (numbers : RunNumbers). (numbers.last_index + 1) ∷ (numbers.last_index + 2) ∷ []) (sym (numbers_there run (place_of op).sub.0 part.sub there))
 
   made_next : AreNextIndexes (numbers_in run (place_of op).sub.0) (step run op indexes).made
   made_next =
@@ -261,6 +271,7 @@ module _ (old new : Table) (lefts rights : List SubState) (before after : SubSta
   within_done = record {
     indexes = indexes_of (step run op indexes).made;
     choice = shown_here.0;
+    newest = ap (λ (l : List ℕ). indexes_of (step run op l).made) newest;
     said = done.said ∙ sym (ap (λ (o : VolumeOutcome). o.answer) whole_here);
     given = subst (GiveVolume new (lefts ++ after ∷ rights)) (sym (ap (λ (o : VolumeOutcome). o.next) whole_here)) next_given;
     taken = taken_at_most old new (need run op) (most_of run op) (λ none. (same_here none).0) (subst (λ (o : Option RunSub). TakesAtMost old new (most_in o op)) (sym there) done.edit.taken);

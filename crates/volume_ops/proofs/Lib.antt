@@ -3,3 +3,4 @@ mod Among
 mod Placed
 mod Asking
 pub mod Required
+pub mod Told

@@ -85,11 +85,12 @@ module _ (run : RunVolume) (sub : RunSub) (op : Op) (indexes : List ℕ) (sound 
   most_is = ap (λ (o : Option RunSub). most_in o op) there
 
   -- the refusal that is told leaves everything as it was
-  pub refused_step : (answer : Answer) → Some answer ≡ refusal_in sub op indexes → step run op [] ≡ volume_unchanged run answer
-  refused_step answer told =
+  pub refused_step : (answer : Answer) → Some answer ≡ refusal_in sub op indexes → (chosen : List ℕ) → step run op chosen ≡ volume_unchanged run answer
+  refused_step answer told chosen =
       let is = refusal_parts (nat_eq (least_need op) 0) (outcome_of sub op indexes) answer told in
-      let kept = step_refused run op [] (ap is_refusal answer_is ∙ is.1) in
-      λ i. record { next = kept.0 i; answer = (answer_is ∙ sym is.0) i; made = kept.1 i }
+      let same : (step run op chosen).answer ≡ (outcome_of sub op indexes).answer = step_answer run op chosen [] sound ∙ answer_is in
+      let kept = step_refused run op chosen (ap is_refusal same ∙ is.1) in
+      λ i. record { next = kept.0 i; answer = (same ∙ sym is.0) i; made = kept.1 i }
     where
       refusal_parts : (reads : Bool) (outcome : Outcome) (answer : Answer) → Some answer ≡ cond reads None (refusal_of outcome) → (answer ≡ outcome.answer) × (is_refusal outcome.answer ≡ true)
       refusal_parts true outcome answer told = absurd (some_none answer told)

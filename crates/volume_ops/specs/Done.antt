@@ -7,7 +7,7 @@ use Rattle.flat_model.specs.declared.answer.Answer.{Answer}
 use Rattle.flat_model.specs.declared.op.Op.{Op}
 use Rattle.flat_model.specs.Needs.{need, removed_from}
 use Rattle.flat_model.specs.Refusal.{is_refusal}
-use Rattle.flat_model.specs.Step.{IsChoice, place_of, step}
+use Rattle.flat_model.specs.Step.{IsChoice, indexes_of, numbers_in, place_of, step}
 use Rattle.flat_model.specs.Volume.{RunSub, RunVolume}
 use Rattle.tree_frame.specs.Frame.{IsEdit, TakesAtMost}
 use Rattle.table_volume.specs.Edited.{KeepsClean}
@@ -28,6 +28,10 @@ most_of run op = most_in (get run (place_of op).sub.0) op
 abbrev pub room_of : RunVolume → Op → ℕ
 room_of run op = cond (nat_eq (need run op) 0) 0 (most_of run op)
 
+-- the two indexes above all that the subvolume of an operation has had in the run (own)
+abbrev pub newest_indexes : RunVolume → Op → List ℕ
+newest_indexes run op = ((numbers_in run (place_of op).sub.0).last_index + 1) ∷ ((numbers_in run (place_of op).sub.0).last_index + 2) ∷ []
+
 -- A state behind an operation, and the one that its subvolume had before: the subvolume's number and the generation that new items
 -- bear stay, and a block of its tree that isn't Dirty stood in its tree before, as it stands (own).
 pub record IsNextOf (old new : Table) (before after : SubState) : Type 0 where
@@ -42,11 +46,12 @@ AreNextOf old new (before ∷ befores) (after ∷ afters) = IsNextOf old new bef
 AreNextOf old new before after = ⊥
 
 -- The answer and the volume that the states then give are those of the definition, where the new names get these indexes, which
--- the operation leaves open; it takes so many blocks at most; a refusal, and an operation that needs no block, leave the table and
+-- the operation leaves open: they are the next ones above all that the subvolume has had; it takes so many blocks at most; a refusal, and an operation that needs no block, leave the table and
 -- the states as they were; it is an edit of the volume's blocks alone; trees that may be sealed still may; and no block is lost (own).
 pub record IsDone (old new : Table) (before after : List SubState) (run : RunVolume) (op : Op) (answer : Answer) : Type 0 where
   pub indexes : List ℕ
   pub choice : IsChoice run op indexes
+  pub newest : indexes ≡ indexes_of (step run op (newest_indexes run op)).made
   pub said : answer ≡ (step run op indexes).answer
   pub given : GiveVolume new after (step run op indexes).next
   pub taken : TakesAtMost old new (room_of run op)

@@ -1,2 +1,3 @@
 pub mod Done
 pub mod Needs
+pub mod Indexes

@@ -5,6 +5,7 @@
 //! told before: `need` is the number of blocks that have to be free, 0 where the operation is refused or only reads.
 #![tactic(auto)]
 
+mod indexes;
 mod judging;
 mod needs;
 mod operation;
@@ -13,5 +14,6 @@ mod reading;
 mod room;
 mod within;
 
+pub use indexes::{made_indexes, next_index};
 pub use needs::need;
 pub use operation::operate;

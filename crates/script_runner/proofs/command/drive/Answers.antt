@@ -7,19 +7,18 @@ use Rattle.script_runner.specs.Mkfs.{IsOldOrAsked}
 use Rattle.script_runner.proofs.MadeLemmas.{old_asked}
 use Rattle.script_runner.specs.Commands.{bytes_of, made_line}
 use Rattle.script_runner.proofs.AnswerLemmas.{made_text}
-use Rattle.script_runner.proofs.RunLemmas.{run_complete, run_no_leaf, run_no_volume}
+use Rattle.script_runner.proofs.Crashes.{run_crash}
+use Rattle.script_runner.proofs.RunLemmas.{run_complete, run_no_volume}
+use Rattle.disk_model.proofs.CrashLaws.{known_as_told}
 use Rattle.script_runner.proofs.command.drive.Goals as goal
 
 pub returns-then-is_only-clause-no_volume : goal.returns-then-is_only-clause-no_volume
-returns-then-is_only-clause-no_volume g c = λ fault is. (c.if-is_only.ensures.0 refl, c.list.ensures.no_volume fault is)
+returns-then-is_only-clause-no_volume g c = λ fault is. (inl (c.if-is_only.ensures.0 refl), c.list.ensures.no_volume fault is)
 
 pub returns-then-is_only-clause-crash : goal.returns-then-is_only-clause-crash
 returns-then-is_only-clause-crash g c = λ other.
     let told = g.D.Disk.told c.args.disk.now in
     subst (λ (after : Option Told). CrashLeaves told after (IsOldOrAsked (bytes_of c.args.words.now))) (sym c.list.ensures.told) (crash_same (IsOldOrAsked (bytes_of c.args.words.now)) told (old_asked (bytes_of c.args.words.now)))
-
-pub returns-then-is_only-2-clause-no_leaf : goal.returns-then-is_only-2-clause-no_leaf
-returns-then-is_only-2-clause-no_leaf g c = λ fault is. (c.if-is_only-2.ensures.0 refl, run_no_leaf _ _ _ _ c.run.result c.run.ensures.answer.0 fault c.run.ensures.answer.2 is)
 
 pub returns-in-Done-clause-text : goal.returns-in-Done-clause-text
 returns-in-Done-clause-text g c = λ other.
@@ -32,4 +31,9 @@ returns-then-is_only-2-clause-run_complete g c = λ _.
     run_complete _ _ (known (g.D.Disk.seen disk) (g.D.Disk.lost disk)) (g.D.Disk.told disk) (g.K.Sink.taken c.args.to.now) (g.D.Disk.faults disk) (g.K.Sink.faults c.args.to.now) _ c.run.result c.run.ensures.answer.0 c.run.ensures.answer.2
 
 pub returns-then-is_only-2-clause-no_volume : goal.returns-then-is_only-2-clause-no_volume
-returns-then-is_only-2-clause-no_volume g c = λ fault is. absurd (run_no_volume _ _ _ _ c.run.result c.run.ensures.answer.0 fault c.run.ensures.answer.2 is)
+returns-then-is_only-2-clause-no_volume g c = λ fault is. (inr (c.if-is_only-2.ensures.0 refl), run_no_volume _ _ _ _ c.run.result c.run.ensures.answer.0 fault c.run.ensures.answer.2 is)
+
+pub returns-then-is_only-2-clause-run_crash : goal.returns-then-is_only-2-clause-run_crash
+returns-then-is_only-2-clause-run_crash g c = λ _.
+    let disk = c.args.disk.now in
+    run_crash _ _ _ _ c.run.result c.run.ensures.answer.0 (known_as_told (g.D.Disk.seen disk) (g.D.Disk.lost disk) (g.D.Disk.told disk) (g.met.D.Disk.reads_as_told disk) (g.met.D.Disk.lost_as_told disk)) (g.met.D.Disk.reads_as_left disk) c.run.ensures.answer.2

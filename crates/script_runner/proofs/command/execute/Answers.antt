@@ -1,7 +1,7 @@
 use Rattle.std.proofs.Common.{ℕ, List, sym, subst}
 use Rattle.std.specs.Cmp.Lexicographic.{same_text}
 use Rattle.script_runner.specs.Commands.{bytes_of}
-use Rattle.script_runner.specs.Mkfs.{HasVolumeAsked, HasVolumeOf, IsOldOrAsked, IsOldOrMade}
+use Rattle.script_runner.specs.Mkfs.{HasVolumeAsked, HasVolumeOf, IsOldOrAsked}
 use Rattle.volume_mkfs.specs.Made.{CrashLeaves}
 use Rattle.volume_mkfs.proofs.Written.{crash_same}
 use Rattle.script_runner.proofs.MadeLemmas.{old_asked}

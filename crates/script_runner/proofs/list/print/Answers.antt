@@ -1,4 +1,4 @@
-use Rattle.std.proofs.Common.{◌≡◌, List, refl, subst, sym}
+use Rattle.std.proofs.Common.{List, refl, subst, sym}
 use Rattle.block_table.specs.declared.tree.SubState.{SubState}
 use Rattle.flat_model.specs.Volume.{volume_of}
 use Rattle.table_volume.specs.Running.{GiveVolume}

@@ -1,6 +1,6 @@
 use Rattle.std.proofs.Common.{Err, ◌∙◌, ap, refl, subst}
 use Rattle.io_edge.specs.Edge.{Takes, TakesFront}
-use Rattle.mount_volume.specs.Answer.{HasRisen}
+use Rattle.blk_base.specs.Causes.{HasRisen}
 use Rattle.io_edge.specs.declared.reading.ReadFault.{ReadFault}
 use Rattle.script_runner.specs.declared.status.Status.{Status}
 use Rattle.script_runner.specs.Commands.{answer_line}

@@ -1,19 +1,23 @@
 use Rattle.std.proofs.Common.{List, Ok, ◌≡◌, ◌∙◌, ap, refl, subst, sym}
 use Rattle.io_edge.specs.Edge.{Takes, TakesFront}
-use Rattle.mount_volume.specs.Answer.{HasRisen}
+use Rattle.blk_base.specs.Causes.{HasRisen}
 use Rattle.script_text.specs.Script.{script_of}
 use Rattle.flat_model.specs.declared.request.Line.{Line}
-use Rattle.leaf_lines.specs.Lines.{AreAllowed}
-use Rattle.leaf_lines.proofs.Allowed.{script_allowed}
 use Rattle.script_runner.specs.declared.status.Status.{Status}
 use Rattle.script_runner.specs.Commands.{answer_line}
 use Rattle.script_runner.specs.Run.{outside}
+use Rattle.script_runner.proofs.FewLines.{few_lines}
 use Rattle.script_runner.proofs.RunLemmas.{told_parsed, told_unparsed}
 use Rattle.disk_model.specs.Disk.{known}
 use Rattle.script_runner.proofs.run.run_bytes.Goals as goal
 
-pub run_script-requires : goal.run_script-requires
-run_script-requires g c = subst AreAllowed (sym c.lines.ensures) (script_allowed c.args.bytes.now c.in-Ok.script c.in-Ok.ensures)
+pub run_script-requires-clause-allowed : goal.run_script-requires-clause-allowed
+run_script-requires-clause-allowed g c =
+    c.a_script_is_allowed.ensures c.args.bytes.now c.into_lines.result.items (c.in-Ok.ensures ∙ ap (λ (ls : List Line). Ok ls) (sym c.into_lines.ensures))
+
+pub run_script-requires-clause-few : goal.run_script-requires-clause-few
+run_script-requires-clause-few g c =
+    few_lines c.args.bytes.now c.into_lines.result.items (c.in-Ok.ensures ∙ ap (λ (ls : List Line). Ok ls) (sym c.into_lines.ensures))
 
 pub returns-in-Ok-clause-answer : goal.returns-in-Ok-clause-answer
 returns-in-Ok-clause-answer g c = λ given left read.
@@ -21,8 +25,8 @@ returns-in-Ok-clause-answer g c = λ given left read.
     let next = c.run_script.new in
     let before = outside (known (g.D.Disk.seen disk) (g.D.Disk.lost disk)) (g.D.Disk.told disk) (g.K.Sink.taken c.args.to.now) (g.D.Disk.faults disk) (g.K.Sink.faults c.args.to.now) in
     let after = outside (known (g.D.Disk.seen next.disk) (g.D.Disk.lost next.disk)) (g.D.Disk.told next.disk) (g.K.Sink.taken next.to) (g.D.Disk.faults next.disk) (g.K.Sink.faults next.to) in
-    let script : script_of c.args.bytes.now ≡ Ok c.lines.result.now = c.in-Ok.ensures ∙ ap (λ (ls : List Line). Ok ls) (sym c.lines.ensures) in
-    told_parsed given left before after c.run_script.result c.args.bytes.now c.lines.result.now read script c.run_script.ensures.answer
+    let script : script_of c.args.bytes.now ≡ Ok c.into_lines.result.items = c.in-Ok.ensures ∙ ap (λ (ls : List Line). Ok ls) (sym c.into_lines.ensures) in
+    told_parsed given left before after c.run_script.result c.args.bytes.now c.into_lines.result.items read script c.run_script.ensures.answer
 
 pub returns-in-Err-clause-answer : goal.returns-in-Err-clause-answer
 returns-in-Err-clause-answer g c = λ given left read.

@@ -1,50 +1,83 @@
-use Rattle.std.proofs.Common.{ap, subst, sym, Err}
-use Rattle.leaf_lines.specs.declared.fault.RunFault.{RunFault}
-use Rattle.leaf_lines.specs.Lines.{IsRunText}
-use Rattle.script_runner.specs.Run.{outside}
-use Rattle.script_runner.proofs.RunLemmas.{HasBegun, IsPutLines, all_run, memory_lacked, sink_failed}
+use Rattle.std.proofs.Common.{Err, ap, refl, subst, sym}
 use Rattle.disk_model.specs.Disk.{known}
-use Rattle.disk_model.proofs.CrashLaws.{known_as_told}
+use Rattle.script_lines.specs.declared.fault.RunFault.{RunFault}
+use Rattle.script_lines.specs.Lines.{HasRun}
+use Rattle.script_runner.specs.Run.{HasLinesAnswer, outside}
+use Rattle.script_runner.proofs.Beginning.{starts_at, starts_between, starts_on, starts_with, the_start, the_volume}
+use Rattle.script_runner.proofs.RunLemmas.{all_run, memory_lacked, sink_failed, told_no_memory}
 use Rattle.script_runner.proofs.run.run_mounted.Goals as goal
 
-pub run_lines-requires-clause-running : goal.run_lines-requires-clause-running
-run_lines-requires-clause-running g c = c.mounted-run.ensures.running (g.D.Disk.count c.args.disk.now) c.requires.ready
+pub returns-in_default-clause-answer : goal.returns-in_default-clause-answer
+returns-in_default-clause-answer g c = λ first counted.
+    let disk = c.args.disk.now in
+    let before = outside (known (g.D.Disk.seen disk) (g.D.Disk.lost disk)) (g.D.Disk.told disk) (g.K.Sink.taken c.args.to.now) first (g.K.Sink.faults c.args.to.now) in
+    let after = outside (known (g.D.Disk.seen disk) (g.D.Disk.lost disk)) (g.D.Disk.told disk) (g.K.Sink.taken c.answer.new.to) (g.D.Disk.faults disk) (g.K.Sink.faults c.answer.new.to) in
+    subst (HasLinesAnswer c.args.lines.items before after) (sym c.answer.ensures.same)
+    (told_no_memory c.args.lines.items before after (record { seen = refl; told = refl }) c.answer.ensures.front c.answer.ensures.whole)
 
-pub returns-in-Ok-clause-answer : goal.returns-in-Ok-clause-answer
-returns-in-Ok-clause-answer g c = λ first counted.
+pub run_lines-requires-clause-between : goal.run_lines-requires-clause-between
+run_lines-requires-clause-between g c =
+    let disk = c.args.disk.now in
+    let seen = known (g.D.Disk.seen disk) (g.D.Disk.lost disk) in
+    let told = g.D.Disk.told disk in
+    let count = g.D.Disk.count disk in
+    let starts = starts_with c.args.mounted count (g.D.Disk.seen disk) (g.D.Disk.lost disk) told c.requires.ready c.requires.stands (g.met.D.Disk.reads_as_told disk) (g.met.D.Disk.lost_as_told disk) (g.met.D.Disk.reads_all disk) (g.met.D.Disk.reads_as_left disk) in
+    let new = c.in-Ok.ensures in (
+      the_volume c.args.mounted count seen told starts,
+      the_start c.args.mounted count seen told starts (g.D.Disk.faults disk),
+      starts_between c.args.mounted count seen told starts _ _ _ _ (g.D.Disk.faults disk) (record { has = new.has; size = new.size; at_zero = new.marks; untouched = c.new-device.ensures }) c.mounting_is_orderly.ensures.orderly c.mounting_is_orderly.ensures.over,
+      starts_at c.args.mounted count seen told starts (g.D.Disk.faults disk),
+    )
+
+pub returns-in-Ok-run_lines-clause-answer : goal.returns-in-Ok-run_lines-clause-answer
+returns-in-Ok-run_lines-clause-answer g c = λ first counted.
     let disk = c.args.disk.now in
     let next = c.run_lines.new in
-    let m = c.args.mounted in
-    let run = c.mounted-run.result in
-    let ran = c.in-Ok.ensures.ran in
-    let begun : HasBegun m run (known (g.D.Disk.seen disk) (g.D.Disk.lost disk)) (g.D.Disk.told disk) = record { volume = c.mounted-run.ensures.volume; begun = c.requires.ready.begun; small = c.requires.ready.small; stands = c.requires.stands; same = known_as_told (g.D.Disk.seen disk) (g.D.Disk.lost disk) (g.D.Disk.told disk) (g.met.D.Disk.reads_as_told disk) (g.met.D.Disk.lost_as_told disk); holds = c.mounted-run.ensures.holds } in
-    all_run c.args.lines.now m run next.run (known (g.D.Disk.seen disk) (g.D.Disk.lost disk)) (known (g.D.Disk.seen next.disk) (g.D.Disk.lost next.disk)) (g.D.Disk.told disk) (g.D.Disk.told next.disk) (g.K.Sink.taken c.args.to.now) (g.K.Sink.taken next.to) first (g.D.Disk.faults disk) (g.D.Disk.faults next.disk) (g.K.Sink.faults c.args.to.now) (g.K.Sink.faults next.to)
-    begun counted ran.0 ran.1 ran.2
+    let seen = known (g.D.Disk.seen disk) (g.D.Disk.lost disk) in
+    let told = g.D.Disk.told disk in
+    let count = g.D.Disk.count disk in
+    let starts = starts_with c.args.mounted count (g.D.Disk.seen disk) (g.D.Disk.lost disk) told c.requires.ready c.requires.stands (g.met.D.Disk.reads_as_told disk) (g.met.D.Disk.lost_as_told disk) (g.met.D.Disk.reads_all disk) (g.met.D.Disk.reads_as_left disk) in
+    let new = c.in-Ok.ensures in
+    let between = starts_between c.args.mounted count seen told starts _ _ _ _ (g.D.Disk.faults disk) (record { has = new.has; size = new.size; at_zero = new.marks; untouched = c.new-device.ensures }) c.mounting_is_orderly.ensures.orderly c.mounting_is_orderly.ensures.over in
+    let ran = c.in-Ok-run_lines.ensures.ran _ _ between (starts_at c.args.mounted count seen told starts (g.D.Disk.faults disk)) in
+    let after = outside (known (g.D.Disk.seen next.disk) (g.D.Disk.lost next.disk)) (g.D.Disk.told next.disk) (g.K.Sink.taken next.to) (g.D.Disk.faults next.disk) (g.K.Sink.faults next.to) in
+    all_run c.args.lines.items (outside seen told (g.K.Sink.taken c.args.to.now) first (g.K.Sink.faults c.args.to.now)) after
+    (starts_on c.args.mounted count seen told starts c.a_run_has_happened.ensures c.images_of_a_run_stand.ensures c.args.lines.items (g.K.Sink.taken c.args.to.now) first (g.K.Sink.faults c.args.to.now) after _ (g.D.Disk.faults disk) ran.0 counted ran.2 ran.1)
 
 pub returns-in-Err-Sink-clause-answer : goal.returns-in-Err-Sink-clause-answer
 returns-in-Err-Sink-clause-answer g c = λ first counted.
     let disk = c.args.disk.now in
     let next = c.run_lines.new in
-    let m = c.args.mounted in
-    let run = c.mounted-run.result in
-    let ran = c.in-Err-Sink.ensures.ran in
-    let begun : HasBegun m run (known (g.D.Disk.seen disk) (g.D.Disk.lost disk)) (g.D.Disk.told disk) = record { volume = c.mounted-run.ensures.volume; begun = c.requires.ready.begun; small = c.requires.ready.small; stands = c.requires.stands; same = known_as_told (g.D.Disk.seen disk) (g.D.Disk.lost disk) (g.D.Disk.told disk) (g.met.D.Disk.reads_as_told disk) (g.met.D.Disk.lost_as_told disk); holds = c.mounted-run.ensures.holds } in
-    sink_failed c.args.lines.now m run next.run (known (g.D.Disk.seen disk) (g.D.Disk.lost disk)) (known (g.D.Disk.seen next.disk) (g.D.Disk.lost next.disk)) (g.D.Disk.told disk) (g.D.Disk.told next.disk) (g.K.Sink.taken c.args.to.now) (g.K.Sink.taken next.to) first (g.D.Disk.faults disk) (g.D.Disk.faults next.disk) (g.K.Sink.faults c.args.to.now) (g.K.Sink.faults next.to)
-    begun counted ran.0 ran.1 (subst (λ (e : RunFault). IsRunText ran.0 (Err e) (g.K.Sink.taken c.args.to.now) (g.K.Sink.taken next.to)) c.in-Err-Sink.field-0-is ran.2)
-    (c.in-Err-Sink.ensures.sink_fault (ap (λ (e : RunFault). Err e) c.in-Err-Sink.field-0-is))
+    let seen = known (g.D.Disk.seen disk) (g.D.Disk.lost disk) in
+    let told = g.D.Disk.told disk in
+    let count = g.D.Disk.count disk in
+    let starts = starts_with c.args.mounted count (g.D.Disk.seen disk) (g.D.Disk.lost disk) told c.requires.ready c.requires.stands (g.met.D.Disk.reads_as_told disk) (g.met.D.Disk.lost_as_told disk) (g.met.D.Disk.reads_all disk) (g.met.D.Disk.reads_as_left disk) in
+    let new = c.in-Ok.ensures in
+    let between = starts_between c.args.mounted count seen told starts _ _ _ _ (g.D.Disk.faults disk) (record { has = new.has; size = new.size; at_zero = new.marks; untouched = c.new-device.ensures }) c.mounting_is_orderly.ensures.orderly c.mounting_is_orderly.ensures.over in
+    let ran = c.in-Err-Sink.ensures.ran _ _ between (starts_at c.args.mounted count seen told starts (g.D.Disk.faults disk)) in
+    let after = outside (known (g.D.Disk.seen next.disk) (g.D.Disk.lost next.disk)) (g.D.Disk.told next.disk) (g.K.Sink.taken next.to) (g.D.Disk.faults next.disk) (g.K.Sink.faults next.to) in
+    let fault = c.in-Err-Sink.field-0-is in
+    sink_failed c.args.lines.items (outside seen told (g.K.Sink.taken c.args.to.now) first (g.K.Sink.faults c.args.to.now)) after
+    (starts_on c.args.mounted count seen told starts c.a_run_has_happened.ensures c.images_of_a_run_stand.ensures c.args.lines.items (g.K.Sink.taken c.args.to.now) first (g.K.Sink.faults c.args.to.now) after _ (g.D.Disk.faults disk) ran.0 counted ran.2
+    (subst (λ (e : RunFault). HasRun (the_volume c.args.mounted count seen told starts) c.args.lines.items (the_start c.args.mounted count seen told starts (g.D.Disk.faults disk)) ran.0 (g.K.Sink.taken c.args.to.now) (g.K.Sink.taken next.to) (Err e)) fault ran.1))
+    (c.in-Err-Sink.ensures.sink_fault (ap (λ (e : RunFault). Err e) fault))
 
 pub returns-clause-answer : goal.returns-clause-answer
 returns-clause-answer g c = λ first counted.
     let disk = c.args.disk.now in
     let next = c.run_lines.new in
-    let m = c.args.mounted in
-    let run = c.mounted-run.result in
-    let ran = c.in-Err-OutOfMemory.ensures.ran in
-    let begun : HasBegun m run (known (g.D.Disk.seen disk) (g.D.Disk.lost disk)) (g.D.Disk.told disk) = record { volume = c.mounted-run.ensures.volume; begun = c.requires.ready.begun; small = c.requires.ready.small; stands = c.requires.stands; same = known_as_told (g.D.Disk.seen disk) (g.D.Disk.lost disk) (g.D.Disk.told disk) (g.met.D.Disk.reads_as_told disk) (g.met.D.Disk.lost_as_told disk); holds = c.mounted-run.ensures.holds } in
-    let before = outside (known (g.D.Disk.seen disk) (g.D.Disk.lost disk)) (g.D.Disk.told disk) (g.K.Sink.taken c.args.to.now) first (g.K.Sink.faults c.args.to.now) in
-    let after = outside (known (g.D.Disk.seen next.disk) (g.D.Disk.lost next.disk)) (g.D.Disk.told next.disk) (g.K.Sink.taken c.answer.new.to) (g.D.Disk.faults next.disk) (g.K.Sink.faults c.answer.new.to) in
-    subst (IsPutLines c.args.lines.now before after) (sym c.answer.ensures.same)
-    (memory_lacked c.args.lines.now m run next.run (known (g.D.Disk.seen disk) (g.D.Disk.lost disk)) (known (g.D.Disk.seen next.disk) (g.D.Disk.lost next.disk)) (g.D.Disk.told disk) (g.D.Disk.told next.disk) (g.K.Sink.taken c.args.to.now) (g.K.Sink.taken c.answer.new.to) first (g.D.Disk.faults disk) (g.D.Disk.faults next.disk) (g.K.Sink.faults c.args.to.now) (g.K.Sink.faults c.answer.new.to)
-    begun counted ran.0 ran.1 (g.K.Sink.taken next.to) (g.K.Sink.faults next.to)
-    (subst (λ (e : RunFault). IsRunText ran.0 (Err e) (g.K.Sink.taken c.args.to.now) (g.K.Sink.taken next.to)) c.in-Err-OutOfMemory.field-0-is ran.2)
-    c.in-Err-OutOfMemory.ensures.counted c.answer.ensures.front c.answer.ensures.whole)
+    let seen = known (g.D.Disk.seen disk) (g.D.Disk.lost disk) in
+    let told = g.D.Disk.told disk in
+    let count = g.D.Disk.count disk in
+    let starts = starts_with c.args.mounted count (g.D.Disk.seen disk) (g.D.Disk.lost disk) told c.requires.ready c.requires.stands (g.met.D.Disk.reads_as_told disk) (g.met.D.Disk.lost_as_told disk) (g.met.D.Disk.reads_all disk) (g.met.D.Disk.reads_as_left disk) in
+    let new = c.in-Ok.ensures in
+    let between = starts_between c.args.mounted count seen told starts _ _ _ _ (g.D.Disk.faults disk) (record { has = new.has; size = new.size; at_zero = new.marks; untouched = c.new-device.ensures }) c.mounting_is_orderly.ensures.orderly c.mounting_is_orderly.ensures.over in
+    let ran = c.in-Err-OutOfMemory.ensures.ran _ _ between (starts_at c.args.mounted count seen told starts (g.D.Disk.faults disk)) in
+    let after = outside (known (g.D.Disk.seen next.disk) (g.D.Disk.lost next.disk)) (g.D.Disk.told next.disk) (g.K.Sink.taken c.answer-in-Err-OutOfMemory.new.to) (g.D.Disk.faults next.disk) (g.K.Sink.faults c.answer-in-Err-OutOfMemory.new.to) in
+    let before = outside seen told (g.K.Sink.taken c.args.to.now) first (g.K.Sink.faults c.args.to.now) in
+    let fault = c.in-Err-OutOfMemory.field-0-is in
+    subst (HasLinesAnswer c.args.lines.items before after) (sym c.answer-in-Err-OutOfMemory.ensures.same)
+    (memory_lacked c.args.lines.items before after (g.K.Sink.taken next.to) (g.K.Sink.faults next.to)
+    (starts_on c.args.mounted count seen told starts c.a_run_has_happened.ensures c.images_of_a_run_stand.ensures c.args.lines.items (g.K.Sink.taken c.args.to.now) first (g.K.Sink.faults c.args.to.now) (record after { taken = g.K.Sink.taken next.to }) _ (g.D.Disk.faults disk) ran.0 counted ran.2
+    (subst (λ (e : RunFault). HasRun (the_volume c.args.mounted count seen told starts) c.args.lines.items (the_start c.args.mounted count seen told starts (g.D.Disk.faults disk)) ran.0 (g.K.Sink.taken c.args.to.now) (g.K.Sink.taken next.to) (Err e)) fault ran.1))
+    c.in-Err-OutOfMemory.ensures.counted c.answer-in-Err-OutOfMemory.ensures.front c.answer-in-Err-OutOfMemory.ensures.whole)

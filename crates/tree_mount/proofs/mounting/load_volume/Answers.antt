@@ -6,7 +6,7 @@ use Rattle.disk_model.proofs.CrashLaws.{known_same}
 use Rattle.volume_format.specs.Views.{super_view}
 use Rattle.volume_image.specs.Roots.{root_want}
 use Rattle.tree_mount.specs.Trees.{AreLoaded, AreWalked, HasWalksFault}
-use Rattle.tree_mount.proofs.Leading.{loaded_by, read_by, told_leads, told_root_fails, told_roots_fail, told_trees_fail, unread_by, walked_by}
+use Rattle.tree_mount.proofs.Leading.{loaded_by, read_by, read_later, told_leads, told_root_fails, told_roots_fail, told_trees_fail, unread_by, walked_by}
 use Rattle.tree_mount.proofs.Loading.{loaded_more}
 use Rattle.tree_mount.proofs.mounting.load_volume.Goals as goal
 
@@ -54,3 +54,11 @@ returns-clause-found g c =
     (read_by super c.load_tree.new.table c.root_want-want.result c.tree_wanted.result c.in_ok-wants.wants.items c.root_want-want.ensures c.tree_wanted.ensures c.in_ok-wants.ensures.ok)
     (subst (AreLoaded c.load_tree.new.table c.load_trees.new.table) c.deref.ensures.value c.in_ok-load_trees.ensures.loaded)
     (subst (λ (ws : List Want). IfTold now (λ image. AreWalked image c.load_tree.new.table c.load_trees.new.table ws)) c.deref.ensures.value c.in_ok-load_trees.ensures.walked)
+
+pub returns-clause-read : goal.returns-clause-read
+returns-clause-read g c =
+    let super = super_view c.args.superblock.now in
+    read_later super c.load_tree.new.table c.load_trees.new.table c.in_ok-wants.wants.items
+    (loaded_by super c.args.table.now c.load_tree.new.table c.root_want-want.result c.requires.empty c.root_want-want.ensures c.in_ok-load_tree.ensures.loaded)
+    (subst (AreLoaded c.load_tree.new.table c.load_trees.new.table) c.deref.ensures.value c.in_ok-load_trees.ensures.loaded)
+    (read_by super c.load_tree.new.table c.root_want-want.result c.tree_wanted.result c.in_ok-wants.wants.items c.root_want-want.ensures c.tree_wanted.ensures c.in_ok-wants.ensures.ok)

@@ -37,7 +37,7 @@ returns-then-has_least_room-clause-done c = λ run volume.
     let state = slice_index_or c.args.states.now c.in-Some.place no_state in
     let at = found_among c.args.states.now c.in-Some.place c.sub_of.result (place_of c.args.op.now).sub c.sub_of.ensures c.in-Some.ensures in
     one_done c.args.table.now c.change_within.new.table c.args.states.now c.in-Some.place state c.change_within.new.sub run c.args.op.now (next_indexes state) volume at
-    (found_inside c.args.states.now c.in-Some.place c.sub_of.result (place_of c.args.op.now).sub c.sub_of.ensures c.in-Some.ensures) (sym c.if-not-is_within_sub.ensures) (λ reads. let value = c.least_need.ensures.value in let some = c.if-least_need-eq0.false in absurd (omega (arith, value, reads, some))) c.change_within.result c.change_within.ensures
+    (found_inside c.args.states.now c.in-Some.place c.sub_of.result (place_of c.args.op.now).sub c.sub_of.ensures c.in-Some.ensures) (sym c.if-not-is_within_sub.ensures) refl (λ reads. let value = c.least_need.ensures.value in let some = c.if-least_need-eq0.false in absurd (omega (arith, value, reads, some))) c.change_within.result c.change_within.ensures
 
 pub refusal-requires-clause-given : goal.refusal-requires-clause-given
 refusal-requires-clause-given c =
@@ -65,7 +65,7 @@ returns-then-least_need-eq0-clause-done c = λ run volume.
     let state = slice_index_or c.args.states.now c.in-Some.place no_state in
     let at = found_among c.args.states.now c.in-Some.place c.sub_of.result (place_of c.args.op.now).sub c.sub_of.ensures c.in-Some.ensures in
     placed_read c.args.table.now c.args.states.now c.in-Some.place state run c.args.op.now (next_indexes state) volume at
-    (found_inside c.args.states.now c.in-Some.place c.sub_of.result (place_of c.args.op.now).sub c.sub_of.ensures c.in-Some.ensures) (sym c.if-not-is_within_sub.ensures) c.read_within.result c.read_within.ensures
+    (found_inside c.args.states.now c.in-Some.place c.sub_of.result (place_of c.args.op.now).sub c.sub_of.ensures c.in-Some.ensures) (sym c.if-not-is_within_sub.ensures) refl c.read_within.result c.read_within.ensures
 
 pub unreachable-requires : goal.unreachable-requires
 unreachable-requires c =

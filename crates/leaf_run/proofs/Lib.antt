@@ -1,4 +1,0 @@
-pub mod Operations
-pub mod Syncs
-pub mod Begins
-pub mod Calls

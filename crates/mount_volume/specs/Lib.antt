@@ -1,4 +1,0 @@
-pub mod Mount
-pub mod Answer
-pub mod Reading
-pub mod Mkfs

@@ -1,0 +1,14 @@
+//! A mounted volume, as a core that calls act on.
+//!
+//! `Volume` has the blocks of a mounted volume (`commit_blocks`) and the callers' wants and covers (`commit_callers`), and
+//! is a `Core` of `commit_core`: each of its events is one method. What it keeps goes with what happened since the mount
+//! (`specs/Keeps.antt`); it logs nothing, so that each durable state is one of a full commit.
+#![tactic(auto)]
+
+mod counting;
+mod ending;
+mod events;
+mod spelled;
+mod volume;
+
+pub use volume::Volume;
