@@ -134,6 +134,7 @@ join one two three before middle after m n h k = record {
   ];
   spare = omega (arith, h.spare, k.spare);
   free = omega (arith, h.free, k.free);
+  balance = omega (arith, h.balance, k.balance);
 }
 
 -- the same between lists
@@ -150,6 +151,7 @@ at_most old new before after m n le h = record {
   allowed = h.allowed;
   spare = omega (arith, h.spare);
   free = omega (arith, h.free);
+  balance = h.balance;
 }
 
 -- a block beside the edit that isn't Free is as it was
@@ -176,6 +178,7 @@ more old new before after extra before' after' m h apart single e f = record {
   ];
   spare = h.spare;
   free = h.free;
+  balance = h.balance;
 }
 
 -- where what was reached was taken, what is reached is

@@ -64,6 +64,7 @@ module _ (old new : Table) (was is : Tree) (key : Key) (bytes : List ℕ) (t : I
     current = all_from (λ (x : ℕ). (block_at new x).state ≢ LetGo) (tree_reach new is) (λ x there. current_after old new (λ y. times_in y (tree_reach old was)) (λ y. times_in y (tree_reach new is)) 17 changes (λ y here. all_to (λ (z : ℕ). (block_at old z).state ≢ LetGo) (tree_reach old was) y current here) x there);
     sealed = sealed;
     blocks = record { spare = changes.spare; free = changes.free };
+    balance = changes.balance;
     leaves = leaves;
     no_leaf = no_leaf;
   }

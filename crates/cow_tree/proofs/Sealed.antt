@@ -1,19 +1,15 @@
 -- Whether blocks pass their headers' checks, below a block, below each of some pointers, and below a node that is being edited.
-use Rattle.std.proofs.Common.{◌≡◌, ◌≢◌, ℕ, zero, suc, List, [], sym, subst, IsOk}
-use Rattle.std.specs.Prelude.{All, slice_index_or}
-use Rattle.std.specs.List.{flat_map}
-use Rattle.std.proofs.lemmas.List.Elements.{All-head, All-tail}
+use Rattle.std.proofs.Common.{◌≡◌, ℕ, suc, List, sym, subst, IsOk}
+use Rattle.std.specs.Prelude.{All}
 use Rattle.blk_base.specs.declared.key.Want.{Want}
-use Rattle.blk_base.specs.Leaf.{Pointer, HeaderFits, IsNodeBody, node_body_of}
+use Rattle.blk_base.specs.Leaf.{Pointer, node_body_of}
 use Rattle.block_table.specs.declared.state.SlotState.TheVariants.{Dirty}
 use Rattle.block_table.specs.declared.tree.Tree.{Tree}
-use Rattle.block_table.specs.Slot.{BlockSlot}
 use Rattle.block_table.specs.Table.{Table}
-use Rattle.blk_base.specs.Trees.{child_want}
-use Rattle.block_table.specs.TreeIn.{IsSealedBlock, IsSealedSubtree, IsSealedTree, block_at}
-use Rattle.leaf_view.proofs.NodeLaws.{node_body_from, node_body_means}
-use Rattle.tree_range.specs.Shape.{AreAlike, node_pointers, reach_below}
-use Rattle.tree_range.proofs.Bodies.{node_body_is, node_pointers_are}
+use Rattle.block_table.specs.TreeIn.{IsSealedSubtree, IsSealedTree, block_at}
+use Rattle.leaf_view.proofs.NodeLaws.{node_body_means}
+use Rattle.tree_range.specs.Shape.{node_pointers}
+use Rattle.tree_range.proofs.Bodies.{node_body_is}
 use Rattle.tree_frame.proofs.Sealed.{pointers_shown}
 use Rattle.cow_tree.specs.Below.{want_at}
 

@@ -81,6 +81,7 @@ nothing old list = record {
   allowed = λ x p q. absurd (omega arith);
   spare = omega arith;
   free = omega arith;
+  balance = refl;
 }
 
 -- a Dirty block has other bytes
@@ -96,6 +97,7 @@ rewritten old new at dirty bytes same spare free = record {
   allowed = λ x p q. absurd (omega arith);
   spare = omega (arith, spare);
   free = omega (arith, free);
+  balance = omega (arith, spare, free);
 }
 
 -- a Free block is taken
@@ -111,6 +113,7 @@ taken old new at fresh same spare free = record {
   allowed = λ x p q. elim (cases_eq at x) [ inl e ↦ subst (λ (y : ℕ). IsAllowed (length old.slots) y) e fresh.allowed | inr e ↦ absurd (omega (arith, elsewhere at x e)) ];
   spare = omega (arith, spare);
   free = omega (arith, free);
+  balance = omega (arith, spare, free);
 }
 
 -- a block is copied to one that was Free, and let go
@@ -136,6 +139,7 @@ copied old new at copy written h =
       allowed = λ x p q. elim (cases_eq copy x) [ inl e ↦ subst (λ (y : ℕ). IsAllowed (length old.slots) y) e h.taken.allowed | inr e ↦ absurd (omega (arith, elsewhere copy x e)) ];
       spare = omega (arith, h.spare);
       free = omega (arith, h.free);
+      balance = omega (arith, h.spare, h.free);
     }
 
 -- a block is made one that may be edited
@@ -172,4 +176,5 @@ split old new at other dirty bytes fresh same spare free =
       allowed = λ x p q. elim (cases_eq other x) [ inl f ↦ subst (λ (y : ℕ). IsAllowed (length old.slots) y) f fresh.allowed | inr f ↦ absurd (omega (arith, both x, elsewhere other x f)) ];
       spare = omega (arith, spare);
       free = omega (arith, free);
+      balance = omega (arith, spare, free);
     }

@@ -7,6 +7,7 @@ use Rattle.block_table.specs.Table.{Table, free_blocks}
 use Rattle.block_table.specs.TreeIn.{block_at}
 use Rattle.tree_range.specs.Part.{times_in}
 use Rattle.tree_frame.specs.Frame.{AreFree, IsLeft}
+use Rattle.tree_delete.specs.Balance.{AreBalanced}
 
 -- what an edit makes of a block that was reached so often before, and is so often after (own)
 pub record IsChangeAt (old new : BlockSlot) (before after : ℕ) : Type 0 where
@@ -25,6 +26,7 @@ pub record IsChangeBy (old new : Table) (before after : ℕ → ℕ) (most : ℕ
   pub allowed : (at : ℕ) → before at ≡ 0 → 1 ≤ after at → IsAllowed (length old.slots) at
   pub spare : old.spare ≤ new.spare + most
   pub free : free_blocks old ≤ free_blocks new + most
+  pub balance : AreBalanced old new
 
 -- the same between two lists of addresses
 abbrev pub IsChange : Table → Table → List ℕ → List ℕ → ℕ → Type 0

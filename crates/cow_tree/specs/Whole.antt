@@ -7,6 +7,7 @@ use Rattle.block_table.specs.TreeIn.{IsSealedTree}
 use Rattle.tree_range.specs.Between.{data_under}
 use Rattle.tree_range.specs.Shape.{IsTree, tree_items, tree_reach}
 use Rattle.tree_frame.specs.Frame.{AreCurrent, IsEdit, TakesAtMost, tree_leaves, with_item}
+use Rattle.tree_delete.specs.Balance.{AreBalanced}
 
 -- the tree has the item in place of the one of its key, where there was one (own)
 pub record IsTreeWritten (old new : Table) (was is : Tree) (key : Key) (bytes : List ℕ) : Type 0 where
@@ -17,5 +18,6 @@ pub record IsTreeWritten (old new : Table) (was is : Tree) (key : Key) (bytes : 
   pub current : AreCurrent new (tree_reach new is)
   pub sealed : (fsid : List ℕ) (before : ℕ) → IsSealedTree old was fsid before → (after : ℕ) × IsSealedTree new is fsid after
   pub blocks : TakesAtMost old new 17
+  pub balance : AreBalanced old new
   pub leaves : tree_leaves new is ≤ tree_leaves old was + 2
   pub no_leaf : (stood : List ℕ) → data_under key (tree_items old was) ≡ Some stood → length bytes ≤ length stood → tree_leaves new is ≡ tree_leaves old was

@@ -36,8 +36,9 @@ fn write(table: &mut BlockTable, tree: &mut Tree, key: Key, bytes: &[u8])
 }
 
 /// Puts an item under a key that the tree hasn't, with 3970 bytes of data at most ("btrfs_insert_empty_item" and
-/// "split_leaf" of fs/btrfs/ctree.c). It takes 17 blocks and buffers at most, and makes two leaves at most. Where
-/// each block that isn't Dirty passed its header's checks by the pointer to it, each still does.
+/// "split_leaf" of fs/btrfs/ctree.c). It takes 17 blocks and buffers at most, as many of the one as
+/// of the other, and makes two leaves at most. Where each block that isn't Dirty passed its header's checks by the pointer to
+/// it, each still does.
 pub fn put(table: &mut BlockTable, tree: &mut Tree, key: Key, bytes: &[u8])
     requires tree { IsTree table.old tree.old }
     requires current { AreCurrent table.old (tree_reach table.old tree.old) }
@@ -52,14 +53,15 @@ pub fn put(table: &mut BlockTable, tree: &mut Tree, key: Key, bytes: &[u8])
     ensures current { AreCurrent table.new (tree_reach table.new tree.new) }
     ensures sealed { (fsid : List ℕ) (was : ℕ) → IsSealedTree table.old tree.old fsid was → (now : ℕ) × IsSealedTree table.new tree.new fsid now }
     ensures blocks { TakesAtMost table.old table.new 17 }
+    ensures balance { table.new.spare + free_blocks table.old ≡ table.old.spare + free_blocks table.new }
     ensures leaves { tree_leaves table.new tree.new ≤ tree_leaves table.old tree.old + 2 }
 {
     write(table, tree, key, bytes);
 }
 
-/// Puts other data, of 3970 bytes at most, under a key that the tree has. It takes 17 blocks and buffers at most, and
-/// makes two leaves at most, and none where the data aren't longer than those that were there. Where each block that isn't
-/// Dirty passed its header's checks by the pointer to it, each still does.
+/// Puts other data, of 3970 bytes at most, under a key that the tree has. It takes 17 blocks and buffers at most, as
+/// many of the one as of the other. It makes two leaves at most, and none where the data aren't longer than those that were
+/// there. Where each block that isn't Dirty passed its header's checks by the pointer to it, each still does.
 pub fn replace(table: &mut BlockTable, tree: &mut Tree, key: Key, bytes: &[u8])
     requires tree { IsTree table.old tree.old }
     requires current { AreCurrent table.old (tree_reach table.old tree.old) }
@@ -74,6 +76,7 @@ pub fn replace(table: &mut BlockTable, tree: &mut Tree, key: Key, bytes: &[u8])
     ensures current { AreCurrent table.new (tree_reach table.new tree.new) }
     ensures sealed { (fsid : List ℕ) (was : ℕ) → IsSealedTree table.old tree.old fsid was → (now : ℕ) × IsSealedTree table.new tree.new fsid now }
     ensures blocks { TakesAtMost table.old table.new 17 }
+    ensures balance { table.new.spare + free_blocks table.old ≡ table.old.spare + free_blocks table.new }
     ensures leaves { tree_leaves table.new tree.new ≤ tree_leaves table.old tree.old + 2 }
     ensures no_leaf { (stood : List ℕ) → data_under key (tree_items table.old tree.old) ≡ Some stood → length bytes.now ≤ length stood → tree_leaves table.new tree.new ≡ tree_leaves table.old tree.old }
 {

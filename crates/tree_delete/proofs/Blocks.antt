@@ -19,6 +19,7 @@ use Rattle.tree_frame.specs.Frame.{IsEdit, TakesAtMost}
 use Rattle.tree_frame.proofs.EditLaws.{is_dirty, nothing_is_an_edit}
 use Rattle.tree_frame.proofs.StepLaws.{copied_is_an_edit, let_go_is_an_edit}
 use Rattle.tree_delete.specs.Ahead.{copies_of}
+use Rattle.tree_delete.specs.Balance.{AreBalanced}
 use Rattle.tree_delete.proofs.Ahead.{copies_one}
 
 -- ---- the lists of a block
@@ -41,17 +42,19 @@ leaf_same table at = same_list (leaf_body_of (block_at table at).bytes)
 pub record IsOwned (old new : Table) (at result : ℕ) : Type 0 where
   pub edit : IsEdit old new (at ∷ []) (result ∷ [])
   pub blocks : TakesAtMost old new (copies_of (block_at old at).state)
+  pub balance : AreBalanced old new
   pub allowed : IsAllowed (length new.slots) at → IsAllowed (length new.slots) result
 
 owned_dirty : (old new : Table) (at result : Addr) → result ≡ at → new ≡ old → IsOwned old new at.0 result.0
 owned_dirty old new at result same table =
-    let here : IsOwned old old at.0 at.0 = record { edit = nothing_is_an_edit old (at.0 ∷ []); blocks = record { spare = omega arith; free = omega arith }; allowed = λ h. h } in
+    let here : IsOwned old old at.0 at.0 = record { edit = nothing_is_an_edit old (at.0 ∷ []); blocks = record { spare = omega arith; free = omega arith }; balance = refl; allowed = λ h. h } in
     subst (λ (a : Addr). IsOwned old new at.0 a.0) (sym same) (subst (λ (t : Table). IsOwned old t at.0 at.0) (sym table) here)
 
 owned_copy : (old new : Table) (at copy : ℕ) → (block_at old at).state ≢ Dirty → IsCopied old new at copy → IsOwned old new at copy
 owned_copy old new at copy written h = record {
   edit = copied_is_an_edit old new at copy h written;
   blocks = let one = copies_one (block_at old at).state written in record { spare = omega (arith, one, h.spare); free = omega (arith, one, h.free) };
+  balance = omega (arith, h.spare, h.free);
   allowed = λ _. subst (λ (n : ℕ). IsAllowed n copy) (sym h.others.size) h.taken.allowed;
 }
 
@@ -66,21 +69,21 @@ owned old new at result same table copied = elim (is_dirty (state_at old at)) [
 pub record IsGone (old new : Table) (at : ℕ) : Type 0 where
   pub edit : IsEdit old new (at ∷ []) []
   pub blocks : TakesAtMost old new 0
+  pub balance : AreBalanced old new
 
-gone_dirty : (old new : Table) (at : Addr) → IsAllowed (length old.slots) at.0 → state_at old at ≡ Dirty → new ≡ with_spare (with_slot old at free_slot) (old.spare + 1) → TakesAtMost old new 0
+gone_dirty : (old new : Table) (at : Addr) → IsAllowed (length old.slots) at.0 → state_at old at ≡ Dirty → new ≡ with_spare (with_slot old at free_slot) (old.spare + 1) → TakesAtMost old new 0 × AreBalanced old new
 gone_dirty old new at allowed dirty is =
     let free = put_last old new at (old.spare + 1) is allowed (ap is_free dirty) in
     let spare : new.spare ≡ old.spare + 1 = ap (λ (t : Table). t.spare) is in
-    record { spare = omega (arith, spare); free = omega (arith, free) }
+    (record { spare = omega (arith, spare); free = omega (arith, free) }, omega (arith, spare, free))
 
-gone_written : (old new : Table) (at : Addr) → state_at old at ≢ Free → new ≡ with_slot old at (record (slot_at old at) { state = LetGo; stood = None }) → TakesAtMost old new 0
+gone_written : (old new : Table) (at : Addr) → state_at old at ≢ Free → new ≡ with_slot old at (record (slot_at old at) { state = LetGo; stood = None }) → TakesAtMost old new 0 × AreBalanced old new
 gone_written old new at taken is =
     let free = put_taken old new at (record (slot_at old at) { state = LetGo; stood = None }) old.spare is (taken_state (state_at old at) taken) refl in
     let spare : new.spare ≡ old.spare = ap (λ (t : Table). t.spare) is in
-    record { spare = omega (arith, spare); free = omega (arith, free) }
+    (record { spare = omega (arith, spare); free = omega (arith, free) }, omega (arith, spare, free))
 
 pub gone : (old new : Table) (at : Addr) → IsAllowed (length old.slots) at.0 → state_at old at ≢ Free → (state_at old at ≡ Dirty → new ≡ with_spare (with_slot old at free_slot) (old.spare + 1)) → (state_at old at ≢ Dirty → new ≡ with_slot old at (record (slot_at old at) { state = LetGo; stood = None })) → IsGone old new at.0
-gone old new at allowed taken dirty written = record {
-  edit = let_go_is_an_edit old new at taken dirty written;
-  blocks = elim (is_dirty (state_at old at)) [ inl is ↦ gone_dirty old new at allowed is (dirty is) | inr other ↦ gone_written old new at taken (written other) ];
-}
+gone old new at allowed taken dirty written =
+    let both : TakesAtMost old new 0 × AreBalanced old new = elim (is_dirty (state_at old at)) [ inl is ↦ gone_dirty old new at allowed is (dirty is) | inr other ↦ gone_written old new at taken (written other) ] in
+    record { edit = let_go_is_an_edit old new at taken dirty written; blocks = both.0; balance = both.1 }

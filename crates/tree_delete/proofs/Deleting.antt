@@ -25,6 +25,7 @@ use Rattle.tree_blocks.proofs.Orders.{pointer_keys-append}
 use Rattle.tree_frame.specs.Frame.{IsEdit, TakesAtMost, leaves_below, without_item}
 use Rattle.tree_delete.specs.Seals.{IsSealedRow, want_of}
 use Rattle.tree_delete.specs.Ahead.{IsBetween, TakesAhead, copies_of, nodes_ahead, row_ahead}
+use Rattle.tree_delete.specs.Balance.{AreBalanced}
 use Rattle.tree_delete.specs.Rows.{HasItemBelow, IsChildOf, IsLessNode, IsNodeOver, row_items, row_reach}
 use Rattle.tree_delete.specs.Steps.{IsCurrentNode}
 use Rattle.blk_base.proofs.Members.{in_nothing}
@@ -199,8 +200,8 @@ module _ (level : ℕ) (old mid : Table) (at : ℕ) (key : Key) (lefts : List Po
           free = omega (arith, moved, was, own, is, row_is, same, child.free, two.free, long, long_cut, long_new, long_row, long_made);
         }
 
-    pub less_node : (taken : ℕ) → TakesAtMost old mid taken → TakesAtMost mid new (copies_of (block_at mid at).state) → taken + 1 ≤ 2 * level + 2 → All (IsChildOf level mid) made → IsLessNode level old new at result key
-    less_node taken one two few children =
+    pub less_node : (taken : ℕ) → TakesAtMost old mid taken → TakesAtMost mid new (copies_of (block_at mid at).state) → taken + 1 ≤ 2 * level + 2 → AreBalanced old new → All (IsChildOf level mid) made → IsLessNode level old new at result key
+    less_node taken one two few balance children =
         let all : All (IsChildOf level mid) (lefts ++ (made ++ rights)) = All-append (IsChildOf level mid) lefts (made ++ rights) (side.lefts_alike.children turn.way.lefts_good) (All-append (IsChildOf level mid) made rights children (side.rights_alike.children turn.way.rights_good)) in
         record {
           shape = record { taken = turn_taken; body = node_to_ok (block_at new result).bytes node.body; children = All-same (IsChildOf level new) (node_pointers new result) (lefts ++ (made ++ rights)) turn_row (turned.row_alike.children all) };
@@ -211,6 +212,7 @@ module _ (level : ℕ) (old mid : Table) (at : ℕ) (key : Key) (lefts : List Po
           once = turned.whole.once;
           edit = turned.edit;
           blocks = takes_more old new (taken + 1) (2 * level + 2) few (takes_join old mid new taken 1 one (takes_one mid new (block_at mid at).state two));
+          balance = balance;
           ahead = λ first last between. turn_takes first last between two;
           leaves = turned.leaves;
           sealed = turn_sealed_there;

@@ -94,7 +94,7 @@ evened old mid new at place h pointers shared firsts some few edit node is spare
       few = few;
       once = c.whole.once;
       edit = edits_join old mid new (at ∷ h.left.at ∷ h.right.at ∷ []) (at ∷ made) (at ∷ made) under.edit c.edit;
-      blocks = let long = length-map pointers (λ (p : Pointer). p.at) in record { spare = omega (arith, shared.blocks.spare, spare, long); free = omega (arith, shared.blocks.free, free, long) };
+      blocks = let long = length-map pointers (λ (p : Pointer). p.at) in record { spare = omega (arith, shared.blocks.spare, spare, long); free = omega (arith, shared.blocks.free, free, long); balance = omega (arith, shared.blocks.balance, spare, free) };
     }
 
 -- ---- the node's list of pointers

@@ -104,6 +104,7 @@ own_right old new left right copy pair left_dirty own dirty bytes =
       right_same = ap node_list bytes;
       edit = c.edit;
       blocks = takes_one old new (block_at old right).state own.blocks;
+      balance = own.balance;
     }
 
 pub own_left : (old new : Table) (left right copy : ℕ) → IsPair old left right → (block_at old right).state ≡ Dirty → IsOwned old new left copy → (block_at new copy).state ≡ Dirty → (block_at new copy).bytes ≡ (block_at old left).bytes → IsOwnedPair old new left right copy right
@@ -122,6 +123,7 @@ own_left old new left right copy pair right_dirty own dirty bytes =
       right_same = same_node old new right same;
       edit = c.edit;
       blocks = takes_one old new (block_at old left).state own.blocks;
+      balance = own.balance;
     }
 
 -- ---- one node of two has other pointers, and then the other
@@ -267,7 +269,7 @@ shared_one old mid new left right new_left new_right pair own joined node kept g
       allowed = All-cons (λ (at : ℕ). IsAllowed (length new.slots) at) new_left [] (same_allowed mid new new_left others.size own.dirty.left_allowed) (All-nil (λ (at : ℕ). IsAllowed (length new.slots) at));
       once = one_once new_left;
       edit = edits_join old mid new (left ∷ right ∷ []) (new_left ∷ new_right ∷ []) (new_left ∷ []) own.edit edit;
-      blocks = record { spare = omega (arith, own.blocks.spare, spare); free = omega (arith, own.blocks.free, free) };
+      blocks = record { spare = omega (arith, own.blocks.spare, spare); free = omega (arith, own.blocks.free, free); balance = omega (arith, own.balance, spare, free) };
     }
 
 pub shared_two : (old mid new : Table) (left right new_left new_right : ℕ) → IsOwnedPair old mid left right new_left new_right → IsDirtyPair new new_left new_right → node_at new new_left ++ (node_at new new_right ++ []) ≡ node_at mid new_left ++ node_at mid new_right → 30 ≤ length (node_at new new_left) → 30 ≤ length (node_at new new_right)
@@ -279,7 +281,7 @@ shared_two old mid new left right new_left new_right own pair lists left_least r
   allowed = two_all (λ (at : ℕ). IsAllowed (length new.slots) at) new_left new_right pair.left_allowed pair.right_allowed;
   once = two_once new_left new_right pair.apart;
   edit = edits_join old mid new (left ∷ right ∷ []) (new_left ∷ new_right ∷ []) (new_left ∷ new_right ∷ []) own.edit edit;
-  blocks = record { spare = omega (arith, own.blocks.spare, spare); free = omega (arith, own.blocks.free, free) };
+  blocks = record { spare = omega (arith, own.blocks.spare, spare); free = omega (arith, own.blocks.free, free); balance = omega (arith, own.balance, spare, free) };
 }
 
 -- the same two nodes the other way round

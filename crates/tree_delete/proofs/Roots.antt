@@ -22,6 +22,7 @@ use Rattle.tree_frame.proofs.Counting.{counted_alike}
 use Rattle.tree_frame.specs.Frame.{AreCurrent, IsEdit, TakesAtMost, leaves_below, tree_leaves, without_item}
 use Rattle.tree_delete.specs.Seals.{IsSealedRow, want_of}
 use Rattle.tree_delete.specs.Ahead.{IsBetween, TakesAhead, nodes_ahead, row_ahead, tree_ahead}
+use Rattle.tree_delete.specs.Balance.{AreBalanced}
 use Rattle.tree_delete.specs.Rows.{HasItemBelow, IsChildOf, IsLessNode, IsLessTree}
 use Rattle.tree_frame.proofs.EditLaws.{edits_join}
 use Rattle.tree_delete.proofs.Seals.{dirty_leaf_sealed, dirty_node_sealed, sealed_alike, sealed_children}
@@ -47,6 +48,7 @@ pub record IsLessRoot (level : ℕ) (old new : Table) (tree result : Tree) (key 
   pub once : NoneTwice (reach_below level new result.root.0)
   pub current : AreCurrent new (reach_below level new result.root.0)
   pub blocks : TakesAtMost old new 17
+  pub balance : AreBalanced old new
   pub ahead : (first last : Key) → IsBetween first last key → TakesAhead old new (tree_ahead first last old tree) (nodes_ahead first last level new result.root.0)
   pub leaves : leaves_below level new result.root.0 ≤ tree_leaves old tree
   pub sealed : (fsid : List ℕ) (was : ℕ) → IsSealedTree old tree fsid was → (now : ℕ) × IsSealedSubtree level new (root_want fsid tree now level result.root.0)
@@ -61,6 +63,7 @@ less_tree level old new tree result key is_tree level_is owner h =
       edit = made.edit;
       current = made.current;
       blocks = made.blocks;
+      balance = made.balance;
       ahead = made.ahead;
       leaves = made.leaves;
       sealed = λ fsid was h.
@@ -92,6 +95,7 @@ moved level old new tree one two key same h = record {
   once = subst (λ (at : ℕ). NoneTwice (reach_below level new at)) same h.once;
   current = subst (λ (at : ℕ). AreCurrent new (reach_below level new at)) same h.current;
   blocks = h.blocks;
+  balance = h.balance;
   ahead = λ first last between. subst (λ (at : ℕ). TakesAhead old new (tree_ahead first last old tree) (nodes_ahead first last level new at)) same (h.ahead first last between);
   leaves = omega (arith, ap (leaves_below level new) same, h.leaves);
   sealed = λ fsid was k. let there = h.sealed fsid was k in (there.0, subst (λ (at : ℕ). IsSealedSubtree level new (root_want fsid tree there.0 level at)) same there.1);
@@ -138,6 +142,7 @@ module _ (level : ℕ) (old mid : Table) (tree : Tree) (key : Key) (root : ℕ) 
         once = less.once;
         current = whole.current;
         blocks = takes_more old mid (2 * level + 2) 17 (omega (arith, low, level_is)) less.blocks;
+        balance = less.balance;
         ahead = ahead_is;
         leaves = leaves_is;
         sealed = λ fsid was k. (was, dirty_node_sealed level mid (root_want fsid tree was (suc level) root) less.dirty (sealed_is fsid was k));
@@ -167,6 +172,7 @@ module _ (level : ℕ) (old mid : Table) (tree : Tree) (key : Key) (root : ℕ) 
         once = subst NoneTwice (sym below.reach) c.whole.once;
         current = subst (AreCurrent new) (sym below.reach) c.whole.current;
         blocks = takes_more old new (2 * level + 2 + 0) 17 (omega (arith, low, level_is)) (takes_join old mid new (2 * level + 2) 0 less.blocks gone.blocks);
+        balance = omega (arith, less.balance, gone.balance);
         ahead = λ first last between.
             let takes = ahead_is first last between in
             let is = dirty_ahead first last level mid root less.dirty in
@@ -190,8 +196,8 @@ only_pointer (p ∷ q ∷ pointers) at generation some few h = absurd (omega (ar
 
 -- ---- a root that is a leaf
 
-pub root_leaf : (old new : Table) (tree result : Tree) (key : Key) → tree.level ≡ 0 → IsTree old tree → AreCurrent old (tree_reach old tree) → IsSubtree 0 new true result.root.0 → leaf_items new result.root.0 ≡ without_item key (leaf_items old tree.root.0) → IsEdit old new (tree.root.0 ∷ []) (result.root.0 ∷ []) → TakesAtMost old new 1 → (block_at new result.root.0).state ≡ Dirty → IsLessRoot 0 old new tree result key
-root_leaf old new tree result key level_is is_tree current shape items edit blocks dirty =
+pub root_leaf : (old new : Table) (tree result : Tree) (key : Key) → tree.level ≡ 0 → IsTree old tree → AreCurrent old (tree_reach old tree) → IsSubtree 0 new true result.root.0 → leaf_items new result.root.0 ≡ without_item key (leaf_items old tree.root.0) → IsEdit old new (tree.root.0 ∷ []) (result.root.0 ∷ []) → TakesAtMost old new 1 → AreBalanced old new → (block_at new result.root.0).state ≡ Dirty → IsLessRoot 0 old new tree result key
+root_leaf old new tree result key level_is is_tree current shape items edit blocks balance dirty =
     let root = tree.root.0 in
     let reach_is : tree_reach old tree ≡ root ∷ [] = ap (λ (n : ℕ). reach_below n old root) level_is in
     let current_root : AreCurrent old (root ∷ []) = subst (AreCurrent old) reach_is current in
@@ -207,6 +213,7 @@ root_leaf old new tree result key level_is is_tree current shape items edit bloc
       once = one_once result.root.0;
       current = c.whole.current;
       blocks = takes_more old new 1 17 (omega arith) blocks;
+      balance = balance;
       ahead = λ first last between. record { spare = omega (arith, blocks.spare); free = omega (arith, blocks.free) };
       leaves = omega (arith, ap (λ (n : ℕ). leaves_below n old root) level_is);
       sealed = λ fsid was k. (was, dirty_leaf_sealed new (root_want fsid tree was 0 result.root.0) dirty);

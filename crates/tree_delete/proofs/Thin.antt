@@ -20,6 +20,7 @@ use Rattle.tree_blocks.specs.Steps.{IsDirtyNode, node_at}
 use Rattle.tree_frame.specs.Frame.{IsEdit, TakesAtMost}
 use Rattle.tree_delete.specs.Seals.{IsSealedRow}
 use Rattle.tree_delete.specs.Ahead.{IsBetween, TakesAhead, copies_of, nodes_ahead, row_ahead}
+use Rattle.tree_delete.specs.Balance.{AreBalanced}
 use Rattle.tree_delete.specs.Rows.{IsChildOf, IsLessNode, row_reach}
 use Rattle.tree_delete.specs.Steps.{HasPair, IsRepaired}
 use Rattle.tree_frame.proofs.EditLaws.{edits_join}
@@ -144,8 +145,8 @@ module _ (level : ℕ) (table : Table) (at : ℕ) (lefts : List Pointer) (thin :
 
 -- the whole step
 pub repaired : (level taken : ℕ) (old mid table new : Table) (at result : ℕ) (key : Key) (lefts : List Pointer) (thin : Pointer) (rights : List Pointer) → IsNodeDone (suc level) old mid table at result key (lefts ++ thin ∷ rights) → IsThin level table result lefts thin rights → length (node_pointers old at) ≡ length (node_pointers table result)
-    → IsRepaired table new result (length lefts) → TakesAtMost old table taken → taken + 1 ≤ 2 * (suc level) + 2 → ((first last : Key) → IsBetween first last key → TakesAhead old table (nodes_ahead first last (suc (suc level)) old at) (nodes_ahead first last (suc (suc level)) table result + 1)) → ((fsid : List ℕ) (owner : ℕ) → IsSealedRow fsid owner (suc level) old (node_pointers old at) → IsSealedRow fsid owner (suc level) table (node_pointers table result)) → IsLessNode (suc level) old new at result key
-repaired level taken old mid table new at result key lefts thin rights done h count r blocks few ahead sealed =
+    → IsRepaired table new result (length lefts) → TakesAtMost old table taken → taken + 1 ≤ 2 * (suc level) + 2 → AreBalanced old table → ((first last : Key) → IsBetween first last key → TakesAhead old table (nodes_ahead first last (suc (suc level)) old at) (nodes_ahead first last (suc (suc level)) table result + 1)) → ((fsid : List ℕ) (owner : ℕ) → IsSealedRow fsid owner (suc level) old (node_pointers old at) → IsSealedRow fsid owner (suc level) table (node_pointers table result)) → IsLessNode (suc level) old new at result key
+repaired level taken old mid table new at result key lefts thin rights done h count r blocks few balance ahead sealed =
     let kids = repaired_kids level table result lefts thin rights h new r in
     let takes = r.even.blocks in
     let two = r.even.few in
@@ -160,6 +161,7 @@ repaired level taken old mid table new at result key lefts thin rights done h co
       once = even.whole.once;
       edit = edits_join old table new (reach_below (suc (suc level)) old at) (reach_below (suc (suc level)) table result) (reach_below (suc (suc level)) new result) done.edit even.edit;
       blocks = takes_more old new (taken + 1) (2 * (suc level) + 2) few (takes_join old table new taken 1 blocks (record { spare = omega (arith, takes.spare, two); free = omega (arith, takes.free, two) }));
+      balance = omega (arith, balance, takes.balance);
       leaves = omega (arith, even.leaves, done.leaves);
       sealed = λ fsid owner was. even.sealed fsid owner (sealed fsid owner was);
       ahead = λ first last between.
@@ -270,12 +272,12 @@ module _ (level : ℕ) (old mid new : Table) (at result : ℕ) (key : Key) (left
       }
 
   -- the child has enough pointers
-  pub changed_full : (taken : ℕ) → TakesAtMost old mid taken → TakesAtMost mid new (copies_of (block_at mid at).state) → taken + 1 ≤ 2 * (suc level) + 2 → 30 ≤ length (node_pointers new q.at) → IsLessNode (suc level) old new at result key
-  changed_full taken one two few full =
+  pub changed_full : (taken : ℕ) → TakesAtMost old mid taken → TakesAtMost mid new (copies_of (block_at mid at).state) → taken + 1 ≤ 2 * (suc level) + 2 → AreBalanced mid new → 30 ≤ length (node_pointers new q.at) → IsLessNode (suc level) old new at result key
+  changed_full taken one two few balance full =
       let full_mid : 30 ≤ length (node_pointers mid q.at) = omega (arith, full, ap (λ (l : List Pointer). length l) kid_pointers) in
-      less_node (suc level) old mid at key lefts p rights (q ∷ []) h.turn new result h.edit h.node h.allowed h.pointers taken one two few (less_child level old mid p q key h.less h.first full_mid)
+      less_node (suc level) old mid at key lefts p rights (q ∷ []) h.turn new result h.edit h.node h.allowed h.pointers taken one two few (omega (arith, h.less.balance, balance)) (less_child level old mid p q key h.less h.first full_mid)
 
   -- or it was repaired
-  pub changed_repaired : (last : Table) (taken : ℕ) → TakesAtMost old mid taken → TakesAtMost mid new (copies_of (block_at mid at).state) → taken + 2 ≤ 2 * (suc level) + 2 → length (node_pointers new q.at) ≤ 29 → IsRepaired new last result (length lefts) → IsLessNode (suc level) old last at result key
-  changed_repaired last taken one two most few r =
-      repaired level (taken + 1) old mid new last at result key lefts q rights changed (changed_thin few) changed_count r (takes_join old mid new taken 1 one (takes_one mid new (block_at mid at).state two)) (omega (arith, most)) (changed_ahead few two) (turn_sealed_there (suc level) old mid at key lefts p rights (q ∷ []) h.turn new result h.edit h.node h.allowed h.pointers)
+  pub changed_repaired : (last : Table) (taken : ℕ) → TakesAtMost old mid taken → TakesAtMost mid new (copies_of (block_at mid at).state) → taken + 2 ≤ 2 * (suc level) + 2 → AreBalanced mid new → length (node_pointers new q.at) ≤ 29 → IsRepaired new last result (length lefts) → IsLessNode (suc level) old last at result key
+  changed_repaired last taken one two most balance few r =
+      repaired level (taken + 1) old mid new last at result key lefts q rights changed (changed_thin few) changed_count r (takes_join old mid new taken 1 one (takes_one mid new (block_at mid at).state two)) (omega (arith, most)) (omega (arith, h.less.balance, balance)) (changed_ahead few two) (turn_sealed_there (suc level) old mid at key lefts p rights (q ∷ []) h.turn new result h.edit h.node h.allowed h.pointers)

@@ -1,4 +1,5 @@
 pub mod Ahead
+pub mod Balance
 pub mod Seals
 pub mod Rows
 pub mod Steps

@@ -14,6 +14,7 @@ use Rattle.tree_range.specs.Between.{data_under}
 use Rattle.tree_frame.specs.Frame.{AreCurrent, IsEdit, TakesAtMost, leaves_below, tree_leaves, without_item}
 use Rattle.tree_delete.specs.Seals.{IsSealedRow}
 use Rattle.tree_delete.specs.Ahead.{IsBetween, TakesAhead, nodes_ahead, tree_ahead}
+use Rattle.tree_delete.specs.Balance.{AreBalanced}
 
 -- the items below these pointers, whose children stand on this level, the blocks, and how many leaves
 abbrev pub row_items : ℕ → Table → List Pointer → List Item
@@ -56,6 +57,7 @@ pub record IsLessNode (level : ℕ) (old new : Table) (at result : ℕ) (key : K
   pub once : NoneTwice (reach_below (suc level) new result)
   pub edit : IsEdit old new (reach_below (suc level) old at) (reach_below (suc level) new result)
   pub blocks : TakesAtMost old new (2 * level + 2)
+  pub balance : AreBalanced old new
   pub ahead : (first last : Key) → IsBetween first last key → TakesAhead old new (nodes_ahead first last (suc level) old at + length (node_pointers new result)) (nodes_ahead first last (suc level) new result + length (node_pointers old at))
   pub leaves : leaves_below (suc level) new result ≤ leaves_below (suc level) old at
   pub sealed : (fsid : List ℕ) (owner : ℕ) → IsSealedRow fsid owner level old (node_pointers old at) → IsSealedRow fsid owner level new (node_pointers new result)
@@ -73,6 +75,7 @@ pub record IsLessTree (old new : Table) (tree result : Tree) (key : Key) : Type 
   pub edit : IsEdit old new (tree_reach old tree) (tree_reach new result)
   pub current : AreCurrent new (tree_reach new result)
   pub blocks : TakesAtMost old new 17
+  pub balance : AreBalanced old new
   pub ahead : (first last : Key) → IsBetween first last key → TakesAhead old new (tree_ahead first last old tree) (tree_ahead first last new result)
   pub leaves : tree_leaves new result ≤ tree_leaves old tree
   pub sealed : (fsid : List ℕ) (was : ℕ) → IsSealedTree old tree fsid was → (now : ℕ) × IsSealedTree new result fsid now

@@ -13,6 +13,7 @@ use Rattle.block_table.specs.TreeIn.{block_at}
 use Rattle.tree_range.specs.Path.{key_behind}
 use Rattle.tree_blocks.specs.Steps.{IsDirtyNode, IsNodeAt, node_at}
 use Rattle.tree_frame.specs.Frame.{IsEdit, TakesAtMost}
+use Rattle.tree_delete.specs.Balance.{AreBalanced}
 
 -- a node that may be copied (own)
 pub record IsCurrentNode (table : Table) (at : ℕ) : Type 0 where
@@ -38,6 +39,7 @@ pub record IsPair (table : Table) (left right : ℕ) : Type 0 where
 pub record TakesForMade (old new : Table) (made : ℕ) : Type 0 where
   pub spare : old.spare + 1 ≤ new.spare + made
   pub free : free_blocks old + 1 ≤ free_blocks new + made
+  pub balance : AreBalanced old new
 
 -- two nodes side by side have become these, one or two, with the same pointers and 30 at least in each (own)
 pub record IsShared (old new : Table) (left right : ℕ) (made : List ℕ) : Type 0 where
@@ -108,3 +110,4 @@ pub record IsOwnedPair (old new : Table) (left right new_left new_right : ℕ) :
   pub right_same : node_at new new_right ≡ node_at old right
   pub edit : IsEdit old new (left ∷ right ∷ []) (new_left ∷ new_right ∷ [])
   pub blocks : TakesAtMost old new 1
+  pub balance : AreBalanced old new

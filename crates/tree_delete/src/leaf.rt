@@ -7,6 +7,7 @@ ghost use Rattle.block_table.specs.TreeIn.{block_at};
 ghost use Rattle.tree_range.specs.Shape.{IsSubtree, leaf_items};
 ghost use Rattle.tree_range.specs.Between.{data_under};
 ghost use Rattle.tree_frame.specs.Frame.{IsEdit, TakesAtMost, without_item};
+ghost use Rattle.tree_delete.specs.Balance.{AreBalanced};
 ghost use Rattle.tree_delete.specs.Rows.{kept_of};
 
 use blk_base::{Addr, Key};
@@ -27,6 +28,7 @@ pub(crate) fn delete_in_leaf(table: &mut BlockTable, at: Addr, key: &Key) -> Add
     ensures dirty { state_at table.new result ≡ SlotState.Dirty }
     ensures edit { IsEdit table.old table.new (at.0 ∷ []) (result.0 ∷ []) }
     ensures blocks { TakesAtMost table.old table.new 1 }
+    ensures balance { AreBalanced table.old table.new }
 {
     let copy = own(table, at);
     match leaf_find(table, copy, key) {
@@ -51,6 +53,7 @@ pub(crate) fn shrink_leaf(table: &mut BlockTable, at: Addr, key: &Key) -> Option
     ensures dirty { All (λ kept. (block_at table.new kept).state ≡ SlotState.Dirty) (kept_of result) }
     ensures edit { IsEdit table.old table.new (at.0 ∷ []) (kept_of result) }
     ensures blocks { TakesAtMost table.old table.new (length (kept_of result)) }
+    ensures balance { AreBalanced table.old table.new }
 {
     if leaf_len(table, at) == 1 {
         table.let_go(at);

@@ -6,6 +6,7 @@ ghost use Rattle.tree_range.specs.Path.{IsChildPlace};
 ghost use Rattle.tree_blocks.specs.Steps.{IsDirtyNode, node_at};
 ghost use Rattle.tree_frame.specs.Frame.{IsEdit, TakesAtMost};
 ghost use Rattle.tree_delete.specs.Ahead.{copies_of};
+ghost use Rattle.tree_delete.specs.Balance.{AreBalanced};
 ghost use Rattle.tree_delete.specs.Steps.{IsCurrentNode};
 
 use blk_base::{Addr, Key};
@@ -35,6 +36,7 @@ pub(crate) fn drop_child(table: &mut BlockTable, at: Addr, place: usize) -> Addr
     ensures allowed { IsAllowed (length table.new.slots) result.0 }
     ensures edit { IsEdit table.old table.new (at.0 ∷ []) (result.0 ∷ []) }
     ensures blocks { TakesAtMost table.old table.new (copies_of (state_at table.old at)) }
+    ensures balance { AreBalanced table.old table.new }
 {
     let copy = own(table, at);
     node_remove(table, copy, place);
@@ -60,6 +62,7 @@ pub(crate) fn change_child(
     ensures allowed { IsAllowed (length table.new.slots) result.0 }
     ensures edit { IsEdit table.old table.new (at.0 ∷ []) (result.0 ∷ []) }
     ensures blocks { TakesAtMost table.old table.new (copies_of (state_at table.old at)) }
+    ensures balance { AreBalanced table.old table.new }
 {
     let copy = drop_child(table, at, place);
     node_insert(table, copy, place, first, child, 0);

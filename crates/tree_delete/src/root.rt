@@ -1,4 +1,4 @@
-ghost use Rattle.std.specs.Prelude.{◌≡◌, ◌≤◌, ℕ, List, IsSome};
+ghost use Rattle.std.specs.Prelude.{◌≡◌, ◌≤◌, ◌+◌, ℕ, List, IsSome};
 ghost use Rattle.blk_base.specs.declared.key.Key.{Key};
 ghost use Rattle.block_table.specs.Table.{free_blocks};
 ghost use Rattle.block_table.specs.TreeIn.{IsSealedTree};
@@ -43,7 +43,7 @@ fn without(table: &mut BlockTable, tree: Tree, key: &Key) -> Tree
 
 /// Takes the item under a key out of a tree ("btrfs_del_items" of fs/btrfs/ctree.c).
 ///
-/// It takes at most 17 blocks and buffers more than it gives back. Within a range of keys that has the item's, it takes
+/// It takes at most 17 blocks and buffers more than it gives back, and as many blocks as buffers. Within a range of keys that has the item's, it takes
 /// one at most, and one more for each node over items of the range that wasn't Dirty and now is, or is gone: those are few
 /// where many items of the range are taken out. The tree may lose a level. Where each block of it that isn't Dirty passes
 /// its header's checks, so it does afterwards.
@@ -59,6 +59,7 @@ pub fn delete(table: &mut BlockTable, tree: &mut Tree, key: &Key)
     ensures edit { IsEdit table.old table.new (tree_reach table.old tree.old) (tree_reach table.new tree.new) }
     ensures current { AreCurrent table.new (tree_reach table.new tree.new) }
     ensures blocks { TakesAtMost table.old table.new 17 }
+    ensures balance { table.new.spare + free_blocks table.old ≡ table.old.spare + free_blocks table.new }
     ensures sealed { (fsid : List ℕ) (was : ℕ) → IsSealedTree table.old tree.old fsid was → (now : ℕ) × IsSealedTree table.new tree.new fsid now }
     ensures ahead { (first last : Key) → IsBetween first last key.now → TakesAhead table.old table.new (tree_ahead first last table.old tree.old) (tree_ahead first last table.new tree.new) }
     ensures leaves { tree_leaves table.new tree.new ≤ tree_leaves table.old tree.old }

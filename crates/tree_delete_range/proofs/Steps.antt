@@ -11,6 +11,7 @@ use Rattle.tree_range.specs.Shape.{IsTree, tree_items, tree_reach}
 use Rattle.tree_frame.specs.Frame.{AreCurrent, IsEdit, TakesAtMost, tree_leaves, without_item}
 use Rattle.tree_frame.proofs.EditLaws.{edits_join, nothing_is_an_edit}
 use Rattle.tree_delete.specs.Ahead.{IsBetween, TakesAhead, tree_ahead}
+use Rattle.tree_delete.specs.Balance.{AreBalanced}
 use Rattle.tree_delete_range.specs.Outside.{items_outside}
 use Rattle.tree_delete_range.proofs.Few.{fourteen_more}
 use Rattle.tree_delete_range.proofs.Gone.{first_goes, none_left}
@@ -28,6 +29,7 @@ pub record IsOnTheWay (first last : Key) (old : Table) (before : Tree) (new : Ta
   pub current : AreCurrent new (tree_reach new after)
   pub spare : old.spare + tree_ahead first last new after + left_between first last new after ≤ new.spare + tree_ahead first last old before + left_between first last old before
   pub free : free_blocks old + tree_ahead first last new after + left_between first last new after ≤ free_blocks new + tree_ahead first last old before + left_between first last old before
+  pub balance : AreBalanced old new
   pub leaves : tree_leaves new after ≤ tree_leaves old before
   pub sealed : (fsid : List ℕ) (was : ℕ) → IsSealedTree old before fsid was → (now : ℕ) × IsSealedTree new after fsid now
 
@@ -40,6 +42,7 @@ begins first last table tree is_tree current = record {
   current = current;
   spare = omega arith;
   free = omega arith;
+  balance = refl;
   leaves = omega arith;
   sealed = λ fsid was h. (was, h);
 }
@@ -51,6 +54,7 @@ pub record IsDeleted (key : Key) (old : Table) (before : Tree) (new : Table) (af
   pub owner : after.owner ≡ before.owner
   pub edit : IsEdit old new (tree_reach old before) (tree_reach new after)
   pub current : AreCurrent new (tree_reach new after)
+  pub balance : AreBalanced old new
   pub leaves : tree_leaves new after ≤ tree_leaves old before
   pub ahead : (first last : Key) → IsBetween first last key → TakesAhead old new (tree_ahead first last old before) (tree_ahead first last new after)
   pub sealed : (fsid : List ℕ) (was : ℕ) → IsSealedTree old before fsid was → (now : ℕ) × IsSealedTree new after fsid now
@@ -77,6 +81,7 @@ goes_on first last key old before mid between new after way here deleted =
       current = deleted.current;
       spare = omega (arith, way.spare, takes.spare, less);
       free = omega (arith, way.free, takes.free, less);
+      balance = omega (arith, way.balance, deleted.balance);
       leaves = omega (arith, way.leaves, deleted.leaves);
       sealed = λ fsid was h. let then = way.sealed fsid was h in deleted.sealed fsid then.0 then.1;
     }

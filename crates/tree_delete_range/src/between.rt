@@ -26,8 +26,8 @@ fn first_between(table: &BlockTable, tree: &Tree, first: &Key, last: &Key) -> Op
 /// Takes the items whose keys are from `first` to `last`, both included, out of a tree ("btrfs_truncate_inode_items" of
 /// fs/btrfs/inode-item.c removes a range of items).
 ///
-/// It takes at most two blocks and buffers for each of these items, and 34 more, than it gives back. The tree may lose
-/// levels.
+/// It takes at most two blocks and buffers for each of these items, and 34 more, than it gives back, and as many
+/// blocks as buffers. The tree may lose levels.
 pub fn delete_range(table: &mut BlockTable, tree: &mut Tree, first: &Key, last: &Key)
     requires tree { IsTree table.old tree.old }
     requires current { AreCurrent table.old (tree_reach table.old tree.old) }
@@ -39,6 +39,7 @@ pub fn delete_range(table: &mut BlockTable, tree: &mut Tree, first: &Key, last: 
     ensures edit { IsEdit table.old table.new (tree_reach table.old tree.old) (tree_reach table.new tree.new) }
     ensures current { AreCurrent table.new (tree_reach table.new tree.new) }
     ensures blocks { TakesAtMost table.old table.new (2 * length (items_between first.now last.now (tree_items table.old tree.old)) + 34) }
+    ensures balance { table.new.spare + free_blocks table.old ≡ table.old.spare + free_blocks table.new }
     ensures leaves { tree_leaves table.new tree.new ≤ tree_leaves table.old tree.old }
     ensures sealed { (fsid : List ℕ) (was : ℕ) → IsSealedTree table.old tree.old fsid was → (now : ℕ) × IsSealedTree table.new tree.new fsid now }
 {

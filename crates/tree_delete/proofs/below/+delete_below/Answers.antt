@@ -204,7 +204,7 @@ returns-then-node_len-ge-LEAST_POINTERS t c =
     let pointers : node_at new result ≡ aim.lefts ++ q ∷ aim.rights = c.change_child-copy.ensures.pointers ∙ ap (λ (n : ℕ). insert (remove (node_at mid at) n) n q) (sym aim.long) ∙ turn_inserted (suc level) old mid at key aim.lefts p aim.rights (q ∷ []) turn q in
     let changed : IsChanged level old mid new at result key aim.lefts p aim.rights q = record { turn = turn; less = less; first = first; edit = c.change_child-copy.ensures.edit; node = c.change_child-copy.ensures.node; allowed = c.change_child-copy.ensures.allowed; pointers = pointers } in
     let full : 30 ≤ length (node_pointers new q.at) = omega (arith, c.node_len.ensures.value, c.if-node_len-ge-LEAST_POINTERS.true, ap (λ (l : List Pointer). length l) (node_same new q.at)) in
-    subst (λ (n : ℕ). IsLessNode n old new at result key) (sym one) (changed_full level old mid new at result key aim.lefts p aim.rights q changed (2 * level + 2) less.blocks c.change_child-copy.ensures.blocks (omega arith) full)
+    subst (λ (n : ℕ). IsLessNode n old new at result key) (sym one) (changed_full level old mid new at result key aim.lefts p aim.rights q changed (2 * level + 2) less.blocks c.change_child-copy.ensures.blocks (omega arith) c.change_child-copy.ensures.balance full)
 
 pub repair-requires-clause-within : goal.repair-requires-clause-within
 repair-requires-clause-within t c =
@@ -296,4 +296,4 @@ returns t c =
     let changed : IsChanged level old mid new at result key aim.lefts p aim.rights q = record { turn = turn; less = less; first = first; edit = c.change_child-copy.ensures.edit; node = c.change_child-copy.ensures.node; allowed = c.change_child-copy.ensures.allowed; pointers = pointers } in
     let few : length (node_pointers new q.at) ≤ 29 = omega (arith, c.node_len.ensures.value, c.if-node_len-ge-LEAST_POINTERS.false, ap (λ (l : List Pointer). length l) (node_same new q.at)) in
     let r : IsRepaired new c.repair.new.table result (length aim.lefts) = subst (λ (n : ℕ). IsRepaired new c.repair.new.table result n) (sym aim.long) c.repair.ensures in
-    subst (λ (n : ℕ). IsLessNode n old c.repair.new.table at result key) (sym one) (changed_repaired level old mid new at result key aim.lefts p aim.rights q changed c.repair.new.table (2 * level + 2) less.blocks c.change_child-copy.ensures.blocks (omega arith) few r)
+    subst (λ (n : ℕ). IsLessNode n old c.repair.new.table at result key) (sym one) (changed_repaired level old mid new at result key aim.lefts p aim.rights q changed c.repair.new.table (2 * level + 2) less.blocks c.change_child-copy.ensures.blocks (omega arith) c.change_child-copy.ensures.balance few r)

@@ -156,7 +156,7 @@ returns-in-None c =
     let p : Pointer = record { key = aim.first; at = c.node_child.result.0.0; generation = aim.generation } in
     let turn : IsTurn 0 old mid at key aim.lefts p aim.rights [] = record { below = c.requires.below; way = aim.way; done = leaf_gone old mid at key p c.in-None.ensures.edit c.in-None.ensures.items c.in-None.ensures.blocks } in
     let pointers : node_at c.drop_child.new.table c.drop_child.result.0 ≡ aim.lefts ++ aim.rights = c.drop_child.ensures.pointers ∙ ap (λ (n : ℕ). remove (node_at mid at) n) (sym aim.long) ∙ turn_removed 0 old mid at key aim.lefts p aim.rights [] turn in
-    less_node 0 old mid at key aim.lefts p aim.rights [] turn c.drop_child.new.table c.drop_child.result.0 c.drop_child.ensures.edit c.drop_child.ensures.node c.drop_child.ensures.allowed pointers 0 c.in-None.ensures.blocks c.drop_child.ensures.blocks (omega arith) (All-nil (IsChildOf 0 mid))
+    less_node 0 old mid at key aim.lefts p aim.rights [] turn c.drop_child.new.table c.drop_child.result.0 c.drop_child.ensures.edit c.drop_child.ensures.node c.drop_child.ensures.allowed pointers 0 c.in-None.ensures.blocks c.drop_child.ensures.blocks (omega arith) (omega (arith, c.in-None.ensures.balance, c.drop_child.ensures.balance)) (All-nil (IsChildOf 0 mid))
 
 pub returns-in-Some : goal.returns-in-Some
 returns-in-Some c =
@@ -172,4 +172,4 @@ returns-in-Some c =
     let first : first_key (leaf_items mid q.at) ≡ Some q.key = first_read (leaf_items mid q.at) q.key (ap (λ (l : List Item). slice_get (keys_of l) 0) (leaf_same mid q.at) ∙ c.leaf_key-first.ensures) in
     let leaf = All-head (IsSubtree 0 c.shrink_leaf.new.table false) c.in-Some.leaf.0 [] c.in-Some.ensures.leaf in
     let pointers : node_at c.change_child.new.table c.change_child.result.0 ≡ aim.lefts ++ q ∷ aim.rights = c.change_child.ensures.pointers ∙ ap (λ (n : ℕ). insert (remove (node_at mid at) n) n q) (sym aim.long) ∙ turn_inserted 0 old mid at key aim.lefts p aim.rights (q ∷ []) turn q in
-    less_node 0 old mid at key aim.lefts p aim.rights (q ∷ []) turn c.change_child.new.table c.change_child.result.0 c.change_child.ensures.edit c.change_child.ensures.node c.change_child.ensures.allowed pointers 1 c.in-Some.ensures.blocks c.change_child.ensures.blocks (omega arith) (All-cons (IsChildOf 0 mid) q [] (leaf, first) (All-nil (IsChildOf 0 mid)))
+    less_node 0 old mid at key aim.lefts p aim.rights (q ∷ []) turn c.change_child.new.table c.change_child.result.0 c.change_child.ensures.edit c.change_child.ensures.node c.change_child.ensures.allowed pointers 1 c.in-Some.ensures.blocks c.change_child.ensures.blocks (omega arith) (omega (arith, c.in-Some.ensures.balance, c.change_child.ensures.balance)) (All-cons (IsChildOf 0 mid) q [] (leaf, first) (All-nil (IsChildOf 0 mid)))

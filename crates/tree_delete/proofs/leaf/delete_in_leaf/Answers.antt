@@ -1,3 +1,4 @@
+use Rattle.std.proofs.Common.{arith}
 use Rattle.tree_delete.proofs.Blocks.{owned}
 use Rattle.tree_delete.proofs.Leaves.{IsLeafCopy, copy_absent, copy_dirty, copy_found, copy_leaf, removed_count, removed_edit, removed_items}
 use Rattle.tree_delete.proofs.leaf.delete_in_leaf.Goals as goal
@@ -43,3 +44,8 @@ returns-clause-edit c =
     let own = owned c.args.table.now c.own-copy.new.table c.args.at c.own-copy.result c.own-copy.ensures.same c.own-copy.ensures.table c.own-copy.ensures.copied in
     let copy : IsLeafCopy c.args.table.now c.own-copy.new.table c.args.at.0 c.own-copy.result.0 = record { own = own; dirty = c.own-copy.ensures.dirty; bytes = c.own-copy.ensures.bytes; shape = c.requires.leaf } in
     removed_edit c.args.table.now c.own-copy.new.table c.args.at.0 c.own-copy.result.0 c.args.key.now copy c.leaf_remove.new.table c.in-Ok.place c.in-Ok.ensures.found c.requires.rises c.leaf_remove.ensures.items c.leaf_remove.ensures.leaf c.leaf_remove.ensures.kept c.leaf_remove.ensures.others c.leaf_remove.ensures.spare c.leaf_remove.ensures.free
+
+pub returns-clause-balance : goal.returns-clause-balance
+returns-clause-balance c =
+    let own = owned c.args.table.now c.own-copy.new.table c.args.at c.own-copy.result c.own-copy.ensures.same c.own-copy.ensures.table c.own-copy.ensures.copied in
+    omega (arith, own.balance, c.leaf_remove.ensures.spare, c.leaf_remove.ensures.free)

@@ -20,6 +20,10 @@ pub returns-then-leaf_len-eq1-clause-blocks : goal.returns-then-leaf_len-eq1-cla
 returns-then-leaf_len-eq1-clause-blocks c =
     (gone c.args.table.now c.let_go.new.self c.args.at c.requires.leaf.0.allowed c.requires.leaf.0.taken c.let_go.ensures.dirty c.let_go.ensures.written).blocks
 
+pub returns-then-leaf_len-eq1-clause-balance : goal.returns-then-leaf_len-eq1-clause-balance
+returns-then-leaf_len-eq1-clause-balance c =
+    (gone c.args.table.now c.let_go.new.self c.args.at c.requires.leaf.0.allowed c.requires.leaf.0.taken c.let_go.ensures.dirty c.let_go.ensures.written).balance
+
 pub returns-clause-leaf : goal.returns-clause-leaf
 returns-clause-leaf c =
     let P : ℕ → Type 0 = IsSubtree 0 c.delete_in_leaf.new.table false in

@@ -18,7 +18,7 @@ returns-then-tree-eq0 c =
     let tree = c.args.tree in
     let result : Tree = record { root = c.delete_in_leaf-root.result; level = tree.level; owner = tree.owner } in
     let zero_level : tree.level ≡ 0 = omega (arith, c.if-tree-eq0.true) in
-    less_tree 0 old new tree result c.args.key.now c.requires.tree zero_level refl (root_leaf old new tree result c.args.key.now zero_level c.requires.tree c.requires.current c.delete_in_leaf-root.ensures.leaf c.delete_in_leaf-root.ensures.items c.delete_in_leaf-root.ensures.edit c.delete_in_leaf-root.ensures.blocks c.delete_in_leaf-root.ensures.dirty)
+    less_tree 0 old new tree result c.args.key.now c.requires.tree zero_level refl (root_leaf old new tree result c.args.key.now zero_level c.requires.tree c.requires.current c.delete_in_leaf-root.ensures.leaf c.delete_in_leaf-root.ensures.items c.delete_in_leaf-root.ensures.edit c.delete_in_leaf-root.ensures.blocks c.delete_in_leaf-root.ensures.balance c.delete_in_leaf-root.ensures.dirty)
 
 pub delete_below-root-requires-clause-below : goal.delete_below-root-requires-clause-below
 delete_below-root-requires-clause-below c =

@@ -35,6 +35,7 @@ loop-key-preserved c =
       owner = c.delete.ensures.owner;
       edit = c.delete.ensures.edit;
       current = c.delete.ensures.current;
+      balance = c.delete.ensures.balance;
       leaves = c.delete.ensures.leaves;
       ahead = c.delete.ensures.ahead;
       sealed = c.delete.ensures.sealed;
