@@ -1,7 +1,7 @@
-mod Between
+pub mod Between
 mod Results
-mod Steps
+pub mod Steps
 mod Once
 mod Indexed
-mod Refs
+pub mod Refs
 mod Hashed

@@ -40,6 +40,15 @@ pub seen_is_given : (table : Table) (state : SubState) (run : RunSub) → GivesR
 seen_is_given table state run gives =
     subst (GivesCoherent table state.tree) (sym (run_is_seen table state run gives)) (record { gives = gives.gives; coherent = gives.sound.coherent })
 
+-- ---- a tree
+
+-- the coherent subvolume that a tree gives is the one that is seen
+pub tree_is_seen : (table : Table) (tree : Tree) (sub : Subvolume) → GivesCoherent table tree sub → seen table tree ≡ sub
+tree_is_seen table tree sub given = is_said (tree_items table tree) (data_in table) sub given.gives.tree_in.order given.gives.items given.coherent
+
+pub seen_is_coherent : (table : Table) (tree : Tree) (sub : Subvolume) → GivesCoherent table tree sub → GivesCoherent table tree (seen table tree)
+seen_is_coherent table tree sub given = subst (GivesCoherent table tree) (sym (tree_is_seen table tree sub given)) given
+
 -- ---- the root directory
 
 no_names : (names : List FlatName) → ((name : FlatName) → Contains names name → name.ino ≢ 256) → names_of names 256 ≡ []

@@ -1,6 +1,7 @@
 //! A subvolume on its tree, as its names and kinds are seen.
 ghost use Rattle.std.specs.Prelude.{◌≡◌};
-ghost use Rattle.flat_model.specs.Volume.{RunSub};
+ghost use Rattle.flat_model.specs.Volume.{RunSub, Subvolume};
+ghost use Rattle.name_walk.specs.Given.{GivesCoherent};
 ghost use Rattle.table_volume.specs.Running.{GivesRun};
 
 use crate::told::{held_names, indexed_names, ref_names};
@@ -43,6 +44,14 @@ impl<'t> CurrentView<'t> {
             table,
             tree: sub.tree,
         }
+    }
+
+    /// The coherent subvolume that a tree gives, whatever its blocks' states are: those of the last full commit too (own).
+    pub fn of_tree(table: &'t BlockTable, tree: &Tree) -> CurrentView<'t>
+        requires { (sub : Subvolume) × GivesCoherent table.now tree.now sub }
+        ensures { (sub : Subvolume) → GivesCoherent table.now tree.now sub → result ≡ sub }
+    {
+        CurrentView { table, tree: *tree }
     }
 }
 

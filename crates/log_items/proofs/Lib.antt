@@ -1,0 +1,9 @@
+pub mod Kept
+pub mod Walk
+pub mod Ranges
+pub mod Law
+pub mod Short
+pub mod Copying
+pub mod Named
+pub mod Saying
+pub mod Renamed

@@ -1,0 +1,4 @@
+pub mod Copied
+pub mod Forgotten
+pub mod Keys
+pub mod Names

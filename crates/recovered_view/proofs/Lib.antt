@@ -1,0 +1,10 @@
+pub mod Loops
+pub mod Narrow
+pub mod Left
+pub mod Inodes
+pub mod Given
+pub mod Dirs
+pub mod Led
+pub mod InSlot
+pub mod Told
+pub mod After
