@@ -10,7 +10,7 @@ mod standard;
 use blk_base::format::BLOCK_SIZE;
 use file_disk::FileDisk;
 use foreign_read::{ForeignStatus, drive_foreign};
-use script_runner::{Status, blocks_asked, drive};
+use script_runner::{Run, Status, blocks_asked, drive};
 use standard::{ReaderSource, WriterSink};
 use std::alloc::AllocError;
 use std::fs::{File, OpenOptions};
@@ -106,7 +106,15 @@ fn on_image(rt: &HostRuntime, path: &str, command: &[String]) -> u8 {
         Ok(mut disk) => {
             let mut from = ReaderSource::new(rt.stdin());
             let mut to = WriterSink::new(rt.stdout());
-            let status = drive(rt.alloc(), command, &mut from, &mut to, &mut disk);
+            let mut history = Run::new(rt.alloc());
+            let status = drive(
+                rt.alloc(),
+                command,
+                &mut from,
+                &mut to,
+                &mut disk,
+                &mut history,
+            );
             explain(rt, path, status);
             status.code()
         }

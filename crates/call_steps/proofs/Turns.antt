@@ -1,5 +1,5 @@
 -- What each turn of a call does, from the event that came in it.
-use Rattle.std.proofs.Common.{◌≡◌, ◌≢◌, ℕ, ◌+◌, Bool, true, false, List, Option, Some, None, Result, Err, refl, sym, ap, subst, ◌∙◌, inl, inr}
+use Rattle.std.proofs.Common.{◌≡◌, ◌≢◌, ℕ, ◌+◌, Bool, true, false, List, Option, Some, None, Result, Ok, Err, IfOk, refl, sym, ap, subst, ◌∙◌, inl, inr}
 use Rattle.block_table.specs.declared.batch.Batch.{Batch}
 use Rattle.disk_model.specs.declared.fault.DeviceFault.{DeviceFault}
 use Rattle.disk_model.specs.declared.fault.DeviceFault.TheVariants as faults
@@ -22,6 +22,7 @@ use Rattle.commit_history.specs.Calls.{AsksFirst, Begins, Duty, EndsFull, FullFa
 use Rattle.commit_images.specs.Scene.{Comes, Handed, Mounted, Nothing, Scene, scene_after}
 use Rattle.commit_images.specs.Scene as scenes
 use Rattle.commit_core.specs.Coming.{HasCome, IsOpDone, call_in, numbered, state_of}
+use Rattle.commit_core.specs.Few.{HasFew}
 use Rattle.commit_core.specs.declared.work.Outcome.{Outcome}
 use Rattle.commit_core.specs.Holding.{HasFailed, full_holder, holder_of}
 use Rattle.commit_core.specs.Sealed.{IsSealedFull}
@@ -32,7 +33,7 @@ use Rattle.call_steps.specs.Standing.{IsAt, IsNew, IsOver, IsWaiting, StandsAt, 
 use Rattle.call_steps.specs.Orderly.{AreLogsFree, IsOrderly}
 use Rattle.call_steps.specs.declared.next.Next.{Next}
 use Rattle.call_steps.specs.declared.next.Next.TheVariants as nexts
-use Rattle.call_steps.specs.Steps.{HasAnswered, HasHandedOut, HasMade, HasMoved, HasStepped, HasToWait, IsFirst, IsLater, IsOfCall, RunsWith, EndsBy, TellsEnd, IsResultOf, MayStep, answer_behind}
+use Rattle.call_steps.specs.Steps.{HasAnswered, HasHandedOut, HasMade, HasMoved, HasStepped, HasToWait, IsFirst, IsLater, IsOfCall, LeavesFew, RunsWith, EndsBy, TellsEnd, IsResultOf, MayStep, answer_behind}
 use Rattle.call_steps.proofs.Behind.{ask_frees, ask_holds, call_behind, done_frees, done_holds_none, failure_frees, failure_holds_none, op_frees, op_holds, order_behind, seal_frees, seal_holds, state_behind}
 use Rattle.call_steps.proofs.Wanting.{IsWant, OfOp, OfSync, call_at, over_asks, over_begins, sealed_stays, want_is_there, want_of, want_seals, holder_ends, holder_open}
 
@@ -323,3 +324,16 @@ failure_of scene (faults.Disk tried) is = (tried, refl, is)
 pub told_by : (scene : Scene) (result : Result (Unit {0}) DeviceFault) (fault : DeviceFault) (tried : Bool) (caller : ℕ) (told : Bool) → result ≡ Err fault → fault ≡ faults.Disk tried → HasFailed scene tried → HasFailed scene told
     → EndsBy result (event.Failed caller turns.Full told)
 told_by scene result fault tried caller told is of one two = subst (λ r. EndsBy r (event.Failed caller turns.Full told)) (sym (is ∙ ap (λ f. Err f) of)) (two.tells ∙ sym one.tells)
+
+-- ---- blocks in use behind a full commit
+
+pub leaves_few : (mounted : Mounted) (scene : Scene) (caller count : ℕ) (outcome : Outcome) (did : Next)
+    → HasFew mounted (scene_after mounted.volume scene (Comes (event.FullDone caller) Nothing)) count → LeavesFew mounted scene caller count (Some outcome) did
+leaves_few mounted scene caller count outcome nexts.Moved few = few
+leaves_few mounted scene caller count outcome (nexts.Work work) few = tt
+leaves_few mounted scene caller count outcome (nexts.Waits turn holder) few = tt
+leaves_few mounted scene caller count outcome (nexts.Finished answer) few = tt
+
+pub none_leaves : {E : Type 0} (mounted : Mounted) (scene : Scene) (caller count : ℕ) (result : Result Next E) → IfOk result (LeavesFew mounted scene caller count None)
+none_leaves mounted scene caller count (Ok did) = tt
+none_leaves mounted scene caller count (Err e) = tt

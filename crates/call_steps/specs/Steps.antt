@@ -22,6 +22,7 @@ use Rattle.commit_core.specs.declared.work.Outcome.{Outcome}
 use Rattle.commit_core.specs.declared.work.Work.{Work}
 use Rattle.commit_core.specs.declared.work.Work.TheVariants as works
 use Rattle.commit_core.specs.Coming.{HasCome, call_in, numbered, state_of}
+use Rattle.commit_core.specs.Few.{HasFew}
 use Rattle.commit_core.specs.Holding.{HasFailed, IsFullOf, holder_of}
 use Rattle.commit_core.specs.Sealed.{HavePlaces, IsSealedFull, SaysCommit}
 use Rattle.call_steps.specs.declared.call.Call.{Call}
@@ -218,3 +219,9 @@ abbrev pub StaysOut : Type 0 → Option Outcome → Next → Type 0
 StaysOut IsOut (Some outcome) next = ⊤
 StaysOut IsOut None (nexts.Work work) = ⊤
 StaysOut IsOut None other = IsOut
+
+-- behind the end of a full commit by which the call goes on, this many blocks are few
+abbrev pub LeavesFew : Mounted → Scene → ℕ → ℕ → Option Outcome → Next → Type 0
+LeavesFew mounted scene caller count None next = ⊤
+LeavesFew mounted scene caller count (Some outcome) nexts.Moved = HasFew mounted (scene_after mounted.volume scene (Comes (event.FullDone caller) Nothing)) count
+LeavesFew mounted scene caller count (Some outcome) other = ⊤

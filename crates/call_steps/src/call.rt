@@ -6,9 +6,10 @@ ghost use Rattle.commit_history.specs.Calls as history;
 ghost use Rattle.commit_images.specs.Scene.{Mounted, Scene};
 ghost use Rattle.commit_room.specs.Room.{free_blocks};
 ghost use Rattle.commit_core.specs.Coming.{call_in};
+ghost use Rattle.commit_core.specs.Few.{IsJustSealed};
 ghost use Rattle.call_steps.specs.declared.call.Stage.TheVariants as stages;
 ghost use Rattle.call_steps.specs.Standing.{IsAllowed, IsAt, IsFinished, IsNew, IsOver, IsWaiting};
-ghost use Rattle.call_steps.specs.Steps.{HandsOut, HasStepped, IsFullBatch, IsLast, MayStep, StaysOut, generation_after, marks_after, seals_after};
+ghost use Rattle.call_steps.specs.Steps.{HandsOut, HasStepped, IsFullBatch, IsLast, LeavesFew, MayStep, StaysOut, generation_after, marks_after, seals_after};
 
 use crate::next::Next;
 use blk_base::OutOfMemory;
@@ -74,7 +75,8 @@ impl Call {
     ///
     /// An operation that is short is tried again once, in the turn after a full commit has covered it. A sync finishes in
     /// the turn that makes the end of its own full commit, or in the next one once another's has covered it. A call whose
-    /// device work failed finishes with that.
+    /// device work failed finishes with that. Where no event came between a full commit's seal and its end, few blocks are
+    /// in use behind it.
     ///
     /// # Errors
     ///
@@ -90,6 +92,8 @@ impl Call {
         ensures stepped { (mounted : Mounted) (scene : Scene) → C.has core.old mounted scene → MayStep (C.out core.old) mounted scene self.old done
             → IfOk result (HasStepped (C.has core.new) (core.new ≡ core.old) mounted scene self.old self.new done
             (free_blocks (C.size core.old) (length (C.in_use core.old))) (C.made core.new)) }
+        ensures few { (mounted : Mounted) (scene : Scene) → C.has core.old mounted scene → MayStep (C.out core.old) mounted scene self.old done
+            → IsJustSealed scene self.old.caller → IfOk result (LeavesFew mounted scene self.old.caller (length (C.in_use core.new)) done) }
         ensures finished { IfOk result (λ next. IsFinished self.new ↔ IsLast next) }
         ensures handed { IfOk result (HandsOut
             (IsFullBatch (C.size core.old) (C.fsid core.old) (C.generation core.old) (C.seals core.old) (C.marks core.old)) (C.out core.new)) }
@@ -265,6 +269,9 @@ impl Call {
         ensures stepped { (mounted : Mounted) (scene : Scene) → C.has core.old mounted scene → MayStep (C.out core.old) mounted scene
             self.old (Some outcome) → HasStepped (C.has core.new) (core.new ≡ core.old) mounted scene self.old self.new (Some outcome)
             (free_blocks (C.size core.old) (length (C.in_use core.old))) (C.made core.new) result }
+        ensures few { (mounted : Mounted) (scene : Scene) → C.has core.old mounted scene → MayStep (C.out core.old) mounted scene
+            self.old (Some outcome) → IsJustSealed scene self.old.caller
+            → LeavesFew mounted scene self.old.caller (length (C.in_use core.new)) (Some outcome) result }
         ensures finished { IsFinished self.new ↔ IsLast result }
         ensures caller { self.new.caller ≡ self.old.caller }
         ensures request { self.new.request ≡ self.old.request }

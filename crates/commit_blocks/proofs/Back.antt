@@ -1,15 +1,13 @@
 -- The table once the list of a commit is back.
-use Rattle.std.proofs.Common.{◌≡◌, ◌≢◌, ◌∙◌, ◌+◌, ◌/◌, ◌%◌, ◌==◌, true, false, ℕ, Bool, List, [], ◌∷◌, length, map, refl, sym, ap, subst, inl, inr, arith, eq-eqb, if◌then◌else◌}
-use Rattle.std.specs.Prelude.{◌⊎◌, All, Contains, slice_index_or}
+use Rattle.std.proofs.Common.{◌≡◌, ◌∙◌, ◌+◌, ◌/◌, ◌%◌, ◌==◌, true, false, ℕ, Bool, List, [], ◌∷◌, length, map, refl, sym, ap, subst, inl, inr, eq-eqb, if◌then◌else◌}
+use Rattle.std.specs.Prelude.{◌⊎◌, Contains, slice_index_or}
 use Rattle.blk_base.specs.Trees.{AtBlock}
-use Rattle.block_table.specs.declared.state.SlotState.TheVariants.{LetGo, Sealed}
 use Rattle.block_table.specs.Blocks.{BlockList}
 use Rattle.block_table.specs.Slot.{BlockSlot, free_slot}
-use Rattle.block_table.specs.Table.{Table, all_back, brought_back}
+use Rattle.block_table.specs.Table.{Table, all_back}
 use Rattle.block_table.specs.TreeIn.{block_at}
 use Rattle.block_table.proofs.Laws.{IsBack, all_back-keeps, all_back-out}
 use Rattle.table_commit.specs.Commit.{NoneOut}
-use Rattle.table_commit.specs.Commit as back
 use Rattle.table_commit.proofs.Settled.{none_out_from}
 use Rattle.volume_image.proofs.Members.{in_map}
 use Rattle.commit_blocks.specs.Steps.{IsHanded}

@@ -1,5 +1,5 @@
 -- A tree that was edited, or sealed, has no busy block below one that isn't.
-use Rattle.std.proofs.Common.{◌≡◌, ◌≢◌, ◌<◌, ℕ, zero, suc, Bool, true, false, List, [], ◌∷◌, length, refl, ◌∙◌, sym, subst, inl, inr, arith}
+use Rattle.std.proofs.Common.{◌≡◌, ◌<◌, ℕ, zero, suc, Bool, true, false, List, [], ◌∷◌, length, refl, ◌∙◌, sym, subst, inl, inr, arith}
 use Rattle.std.specs.Prelude.{◌⊎◌, All, Contains, slice_index_or}
 use Rattle.std.specs.List.{flat_map}
 use Rattle.std.proofs.lemmas.List.Elements.{All-cons, All-contains, All-nil, All-weaker, Contains-append_cases, Contains-append_left, Contains-append_right}
@@ -18,7 +18,7 @@ use Rattle.tree_range.proofs.Bodies.{node_body_is}
 use Rattle.tree_range.proofs.Law.{Child}
 use Rattle.tree_range.proofs.Local.{node_pointers_alike}
 use Rattle.tree_frame.proofs.Reading.{all_joined}
-use Rattle.blk_base.proofs.Members.{in_cons, in_head, in_nothing, in_one, in_tail, is_in}
+use Rattle.blk_base.proofs.Members.{in_cons, in_head, in_nothing, in_one, in_tail}
 use Rattle.tree_seal.specs.OnImage.{root_want}
 use Rattle.tree_seal.proofs.Walk.{reach_itself}
 use Rattle.commit_blocks.specs.Keeps.{BusyIsAbove, IsBusy}

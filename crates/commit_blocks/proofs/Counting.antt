@@ -1,12 +1,11 @@
 -- How many blocks are Free behind a change, and lists of addresses in which none stands twice.
-use Rattle.std.proofs.Common.{◌≡◌, ◌≢◌, ◌≤◌, ◌+◌, ◌*◌, ◌/◌, ◌&&◌, ◌||◌, ℕ, zero, suc, Bool, true, false, cond, not, List, [], ◌∷◌, Contains, filter, length, nat_eq, nat_le, slice_index_or, refl, sym, ap, subst, ◌∙◌, arith, inl, inr, if◌then◌else◌}
-use Rattle.std.specs.Prelude.{◌==◌, ◌⊎◌}
-use Rattle.std.specs.List.{list_any}
+use Rattle.std.proofs.Common.{◌≡◌, ◌≢◌, ◌≤◌, ◌+◌, ◌*◌, ◌/◌, ◌&&◌, ℕ, suc, Bool, true, false, not, List, [], ◌∷◌, Contains, filter, length, nat_eq, nat_le, slice_index_or, refl, sym, ap, subst, ◌∙◌, arith, inl, inr, if◌then◌else◌}
+use Rattle.std.specs.Prelude.{◌==◌}
 use Rattle.std.proofs.lemmas.Bool.{cases_Bool, eq-eqb, eqb-true, le-leb, leb-true, ne_eqb, true≢false}
 use Rattle.std.proofs.lemmas.List.Elements.{All-contains_itself, All-weaker}
 use Rattle.blk_base.specs.declared.format.TheConstants.{COPY_BLOCK, FIRST_BLOCK}
 use Rattle.blk_base.specs.Trees.{NoneTwice}
-use Rattle.blk_base.proofs.Members.{in_cons, in_head, in_nothing, in_tail}
+use Rattle.blk_base.proofs.Members.{in_cons, in_head, in_nothing}
 use Rattle.block_table.specs.declared.state.SlotState.{SlotState}
 use Rattle.block_table.specs.declared.state.SlotState.TheVariants.{Dirty, Free, LetGo, Live, Sealed}
 use Rattle.block_table.specs.Slot.{BlockSlot, free_slot, is_free}

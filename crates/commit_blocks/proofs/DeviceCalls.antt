@@ -1,13 +1,13 @@
 -- A call of the device that may happen changes nothing of what a volume keeps.
-use Rattle.std.proofs.Common.{◌≡◌, ◌≢◌, ℕ, Bool, true, false, cond, List, [], ◌∷◌, Option, Some, None, refl, sym, ap, subst, ◌∙◌}
+use Rattle.std.proofs.Common.{◌≡◌, ℕ, Bool, true, false, cond, List, [], ◌∷◌, Option, Some, refl, sym, ap, subst}
 use Rattle.std.specs.Prelude.{Contains}
 use Rattle.blk_base.specs.Bytes.{Image}
 use Rattle.commit_core.specs.Coming.{IsDeviceCall}
 use Rattle.commit_history.specs.State.{State}
-use Rattle.commit_images.specs.Admissible.{MayHappen, MayWriteAgain, MayWriteSuper}
-use Rattle.commit_images.specs.Scene.{Comes, Commit, Flushes, Happening, HasFailed, IsWritten, Mounted, NotTried, Progress, Scene, Writes, WritesAgain, WritesSuper, scene_after, scene_after_again, scene_after_super, state_in}
+use Rattle.commit_images.specs.Admissible.{MayHappen, MayWriteSuper}
+use Rattle.commit_images.specs.Scene.{Comes, Commit, Flushes, Happening, HasFailed, IsWritten, Mounted, Scene, Writes, WritesAgain, WritesSuper, scene_after, scene_after_again, scene_after_super, state_in}
 use Rattle.disk_model.proofs.CrashLaws.{Contains-here, Contains-none, Contains-single}
-use Rattle.flat_model.specs.Volume.{RunVolume, Volume}
+use Rattle.flat_model.specs.Volume.{RunVolume}
 use Rattle.commit_blocks.specs.declared.kept.Kept.{Kept}
 use Rattle.commit_blocks.specs.Keeps.{KeepsBlocks}
 use Rattle.commit_blocks.proofs.DeviceSuper.{FindsFirst, TriesSuper, again_keeps, tried_keeps}

@@ -1,9 +1,9 @@
 -- A write of a superblock keeps what a volume keeps: of the commit that runs, or again of one whose write failed.
-use Rattle.std.proofs.Common.{◌≡◌, ◌≢◌, ◌*◌, ◌/◌, ℕ, List, [], ◌∷◌, ◌++◌, Option, Some, None, refl, sym, ap, subst, ◌∙◌, inl, inr}
+use Rattle.std.proofs.Common.{◌≡◌, ◌≢◌, ◌/◌, ℕ, List, [], ◌∷◌, Option, Some, None, sym, ap, subst, ◌∙◌, inl, inr}
 use Rattle.std.specs.Prelude.{◌⊎◌, Contains}
 use Rattle.std.proofs.lemmas.List.Elements.{Contains-append_left}
 use Rattle.blk_base.specs.Bytes.{Image}
-use Rattle.block_table.specs.declared.state.SlotState.TheVariants.{Dirty, Free, Live, Sealed}
+use Rattle.block_table.specs.declared.state.SlotState.TheVariants.{Dirty, Free, Live}
 use Rattle.block_table.specs.declared.tree.Tree.{Tree}
 use Rattle.block_table.specs.TreeIn.{block_at}
 use Rattle.commit_core.specs.Sealed.{IsOfNewest}
@@ -11,11 +11,10 @@ use Rattle.disk_model.proofs.CrashLaws.{Contains-cons_cases, Contains-here}
 use Rattle.commit_images.specs.Admissible.{last_bytes}
 use Rattle.commit_images.specs.Scene.{Commit, IsWritten, NotTried, Reaches, Scene}
 use Rattle.flat_model.specs.Volume.{RunVolume}
-use Rattle.table_commit.specs.Commit.{addresses_of}
 use Rattle.tree_range.specs.Shape.{tree_reach}
 use Rattle.volume_seal.specs.Sealed.{states_reach}
 use Rattle.commit_blocks.specs.declared.kept.Kept.{Kept}
-use Rattle.commit_blocks.specs.Keeps.{AreApart, AreApartFromFirst, HoldsCommit, IsFound, IsOut, IsQuiet, IsTried, IsTurn, IsUntried, KeepsBlocks, numbered_at, reach_there}
+use Rattle.commit_blocks.specs.Keeps.{AreApart, AreApartFromFirst, HoldsCommit, IsFound, IsOut, IsTried, IsTurn, IsUntried, KeepsBlocks, numbered_at, reach_there}
 
 -- what is found has this one first, and no other than before
 pub record FindsFirst (one other : Scene) (first : Commit) (rest others : List Commit) : Type 0 where
@@ -123,6 +122,8 @@ module _ (kept : Kept) (image : Image) (run : RunVolume) (one other : Scene) whe
       root_apart = h.root_apart;
       held = h.held;
       reaches = h.reaches;
+      root_reached = h.root_reached;
+      since = h.since;
       noted_once = h.noted_once;
       noted = h.noted;
       noted_apart = h.noted_apart;
@@ -203,6 +204,8 @@ module _ (kept : Kept) (image : Image) (run : RunVolume) (one other : Scene) whe
         root_apart = out.root_apart;
         held = out.held;
         reaches = out.reaches;
+        root_reached = out.root_reached;
+        since = out.since;
         noted_once = out.noted_once;
         noted = out.noted;
         noted_apart = out.noted_apart;

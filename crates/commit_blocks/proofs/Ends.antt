@@ -1,11 +1,9 @@
 -- What a volume keeps once its full commit has ended, whichever way.
-use Rattle.std.proofs.Common.{◌≡◌, ◌≢◌, ◌∙◌, ◌≤◌, ◌+◌, ◌*◌, ◌/◌, ◌%◌, ◌++◌, true, false, ℕ, zero, suc, List, [], ◌∷◌, Option, None, Some, length, map, refl, sym, ap, subst, inl, inr, arith}
-use Rattle.std.specs.Prelude.{◌⊎◌, All, Contains, slice_index_or, vec_capacity}
-use Rattle.std.proofs.lemmas.List.Elements.{All-contains_itself, All-weaker}
+use Rattle.std.proofs.Common.{◌≡◌, ◌≢◌, ◌∙◌, ◌≤◌, ◌+◌, ◌/◌, false, ℕ, zero, suc, List, [], Option, None, Some, length, map, refl, sym, ap, subst, inl, inr, arith}
+use Rattle.std.specs.Prelude.{All, Contains, slice_index_or, vec_capacity}
 use Rattle.blk_base.specs.Bytes.{Image}
 use Rattle.blk_base.specs.Leaf.{Pointer}
 use Rattle.blk_base.specs.Trees.{NoneTwice}
-use Rattle.block_table.specs.declared.state.SlotState.{SlotState}
 use Rattle.block_table.specs.declared.state.SlotState.TheVariants.{Dirty, Free, LetGo, Live, Sealed}
 use Rattle.block_table.specs.declared.tree.SubState.{SubState}
 use Rattle.block_table.specs.declared.tree.Tree.{Tree}
@@ -21,10 +19,17 @@ use Rattle.tree_range.specs.Shape.{node_pointers, tree_reach}
 use Rattle.tree_seal.specs.Above.{DirtyIsAbove}
 use Rattle.volume_seal.specs.Sealed.{IsReady, states_reach}
 use Rattle.commit_blocks.specs.declared.kept.Kept.{Kept}
-use Rattle.commit_blocks.specs.Keeps.{AreApartFromFirst, BusyIsAbove, HoldsCommit, IsBusy, IsCurrent, IsFound, IsGone, IsHeld, IsQuiet, IsTurn, KeepsBlocks, numbered_at, old_roots, reach_there, roots_room}
+use Rattle.commit_blocks.specs.Keeps.{AreApartFromFirst, BusyIsAbove, HoldsCommit, IsCurrent, IsFound, IsGone, IsQuiet, IsTurn, KeepsBlocks, numbered_at, old_roots, reach_there, roots_room}
 use Rattle.commit_blocks.specs.Steps.{IsEnded, KeepsRest}
 use Rattle.commit_blocks.proofs.Fates.{reach_of, states_taken}
-use Rattle.commit_blocks.proofs.Read.{each, given_now, reach_now}
+use Rattle.commit_blocks.proofs.Read.{given_now, reach_now}
+
+-- the scene once the commit that ran has ended
+abbrev pub ended_now : Scene → Scene
+ended_now scene = record scene { batch = None }
+
+pub is_ended_now : (scene : Scene) → IsEnded scene (ended_now scene)
+is_ended_now scene = record { found = refl; handed = refl; batch = refl }
 
 -- what an end makes of a block
 pub record Ends (old new : BlockSlot) : Type 0 where
@@ -58,8 +63,8 @@ module _ (old new : Kept) (image : Image) (run : RunVolume) (scene next : Scene)
   end_given : GiveVolume new.table old.states.items run
   end_given = given_now old.table new.table old.states.items run keeps.current.given end_readable (λ at there. (stays at there).1)
 
-  pub end_current : All (λ (state : SubState). IsReady new.table state.tree old.fsid) old.states.items → 100 ≤ free_blocks new.table + length (old_roots new) → 80 ≤ new.table.spare + length (old_roots new) → length (tree_reach new.table new.last) ≤ 33 → length (reach_there new.table new.failed) ≤ 33 → IsCurrent new run
-  end_current ready free spare last_few failed_few = record {
+  pub end_current : ((at : ℕ) → (block_at new.table at).state ≢ Free → (block_at new.table at).state ≢ LetGo → Contains (reach_of old) at) → All (λ (state : SubState). IsReady new.table state.tree old.fsid) old.states.items → 100 ≤ free_blocks new.table + length (old_roots new) → 80 ≤ new.table.spare + length (old_roots new) → length (tree_reach new.table new.last) ≤ 33 → length (reach_there new.table new.failed) ≤ 33 → IsCurrent new run
+  end_current accounted ready free spare last_few failed_few = record {
     least = omega (arith, rest.size, keeps.current.least);
     most = omega (arith, rest.size, keeps.current.most);
     given = subst (λ (l : List SubState). GiveVolume new.table l run) (sym rest.states) end_given;
@@ -71,6 +76,7 @@ module _ (old new : Kept) (image : Image) (run : RunVolume) (scene next : Scene)
     above = subst (λ (l : List SubState). All (λ (state : SubState). BusyIsAbove state.tree.level new.table state.tree.root.0) l) (sym rest.states)
         (λ k d within. busy_from_dirty (slice_index_or old.states.items k d).tree.level new.table (slice_index_or old.states.items k d).tree.root.0 (λ at. (ends at).not_sealed) (ready k d within).above);
     allowed = λ at taken. subst (λ (n : ℕ). Rattle.blk_base.specs.Address.IsAllowed n at) (sym rest.size) (keeps.current.allowed at ((ends at).came taken));
+    used = λ at taken kept. inl (subst (λ (l : List ℕ). Contains l at) (sym end_reach) (accounted at taken kept));
     fits = let long = ap length end_reach in let same = ap (λ (l : List SubState). roots_room (length l)) rest.states in omega (arith, long, rest.size, same, keeps.current.fits);
     free = subst (λ (tree : Option Tree). 100 ≤ free_blocks new.table + length (old_roots new) + length (reach_there new.table tree)) (sym rest.sealed) (omega (arith, free));
     last_few = last_few;

@@ -1,34 +1,31 @@
 -- What a seal of the whole volume makes of each block.
-use Rattle.std.proofs.Common.{◌≡◌, ◌≢◌, ◌∙◌, ◌≤◌, ◌+◌, ◌-◌, ◌*◌, ◌/◌, ◌%◌, ◌++◌, true, ℕ, List, [], ◌∷◌, None, length, map, refl, sym, ap, subst, inl, inr, arith}
-use Rattle.std.specs.Prelude.{◌⊎◌, All, Contains, slice_index_or}
-use Rattle.std.proofs.lemmas.List.Elements.{All-contains, All-contains_itself, Contains-append_cases, Contains-append_left, Contains-append_right}
+use Rattle.std.proofs.Common.{◌≡◌, ◌≢◌, ◌∙◌, ◌≤◌, ◌+◌, ◌-◌, ◌%◌, true, ℕ, List, None, length, refl, sym, ap, subst, inl, inr}
+use Rattle.std.specs.Prelude.{Contains}
+use Rattle.std.proofs.lemmas.List.Elements.{All-contains, Contains-append_cases}
 use Rattle.blk_base.specs.Address.{IsAllowed}
 use Rattle.blk_base.specs.Bytes.{Image}
-use Rattle.blk_base.specs.Trees.{NoneTwice}
-use Rattle.blk_base.proofs.Members.{is_in, once_apart}
-use Rattle.block_table.specs.declared.state.SlotState.{SlotState}
-use Rattle.block_table.specs.declared.state.SlotState.TheVariants.{Dirty, Free, LetGo, Live, Sealed}
+use Rattle.blk_base.proofs.Members.{is_in}
+use Rattle.block_table.specs.declared.state.SlotState.TheVariants.{Dirty, Free, LetGo, Sealed}
 use Rattle.block_table.specs.declared.tree.SubState.{SubState}
-use Rattle.block_table.specs.declared.tree.Tree.{Tree}
 use Rattle.block_table.specs.Blocks.{BlockList}
 use Rattle.block_table.specs.Slot.{BlockSlot}
 use Rattle.block_table.specs.Table.{Table, free_blocks, with_lists}
 use Rattle.block_table.specs.TreeIn.{IsTaken, block_at}
 use Rattle.commit_images.specs.Scene.{Scene}
 use Rattle.flat_model.specs.Volume.{RunVolume}
-use Rattle.table_volume.specs.Gives.{sub_reach, tree_data}
+use Rattle.table_volume.specs.Gives.{sub_reach}
 use Rattle.table_volume.specs.Running.{GiveVolume}
 use Rattle.tree_frame.proofs.Reading.{all_joined, reach_taken}
 use Rattle.tree_range.specs.Shape.{tree_reach}
 use Rattle.tree_seal.proofs.Trees.{dirty_or_not}
 use Rattle.tree_seal.specs.Sealing.{IsSealedSlot}
-use Rattle.volume_seal.specs.Sealed.{IsVolumeSealed, states_reach}
+use Rattle.volume_seal.specs.Sealed.{states_reach}
 use Rattle.volume_seal.proofs.States.{all_taken}
 use Rattle.commit_blocks.specs.declared.kept.Kept.{Kept}
-use Rattle.commit_blocks.specs.Keeps.{IsQuiet, IsTurn, KeepsBlocks, old_roots, reach_there}
-use Rattle.commit_blocks.specs.Steps.{IsKeptSealed, with_running}
+use Rattle.commit_blocks.specs.Keeps.{IsQuiet, IsTurn, KeepsBlocks}
+use Rattle.commit_blocks.specs.Steps.{IsKeptSealed}
 use Rattle.commit_blocks.proofs.Counting.{free_falls}
-use Rattle.commit_blocks.proofs.Read.{each, given_now, reach_now}
+use Rattle.commit_blocks.proofs.Read.{given_now, reach_now}
 use Rattle.commit_blocks.proofs.Running.{running_reach}
 
 abbrev pub reach_of : Kept → List ℕ

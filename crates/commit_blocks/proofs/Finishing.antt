@@ -1,13 +1,12 @@
 -- What a volume keeps once the superblock of its full commit is written.
-use Rattle.std.proofs.Common.{◌≡◌, ◌≢◌, ◌∙◌, ◌≤◌, ◌+◌, ◌*◌, ◌/◌, ◌%◌, ◌++◌, true, false, ℕ, zero, suc, List, [], ◌∷◌, Option, None, Some, length, length-append, map, refl, sym, ap, subst, inl, inr, arith}
-use Rattle.std.specs.Prelude.{◌⊎◌, All, Contains, vec_capacity}
+use Rattle.std.proofs.Common.{◌≡◌, ◌≢◌, ◌∙◌, ◌≤◌, ◌+◌, ◌*◌, ◌/◌, ◌++◌, false, ℕ, zero, suc, List, [], ◌∷◌, Option, None, Some, length, sym, ap, subst, inl, inr, arith}
+use Rattle.std.specs.Prelude.{All, Contains, vec_capacity}
 use Rattle.std.proofs.lemmas.List.{append-nil}
 use Rattle.std.proofs.lemmas.List.Elements.{All-contains}
 use Rattle.blk_base.specs.Address.{IsAllowed}
 use Rattle.blk_base.specs.Bytes.{Image}
-use Rattle.blk_base.specs.Trees.{AtBlock, NoneTwice}
+use Rattle.blk_base.specs.Trees.{NoneTwice}
 use Rattle.blk_base.proofs.Members.{is_in}
-use Rattle.block_table.specs.declared.state.SlotState.{SlotState}
 use Rattle.block_table.specs.declared.state.SlotState.TheVariants.{Dirty, Free, LetGo, Live, Sealed}
 use Rattle.block_table.specs.declared.tree.SubState.{SubState}
 use Rattle.block_table.specs.declared.tree.Tree.{Tree}
@@ -16,28 +15,39 @@ use Rattle.block_table.specs.Slot.{BlockSlot}
 use Rattle.block_table.specs.Table.{Table, free_blocks}
 use Rattle.block_table.specs.TreeIn.{IsTaken, block_at}
 use Rattle.commit_core.specs.Sealed.{IsOfNewest}
-use Rattle.commit_images.specs.Scene.{Commit, IsWritten, NotTried, Reaches, Scene}
+use Rattle.commit_images.specs.Scene.{Commit, IsWritten, NotTried, Scene}
 use Rattle.flat_model.specs.Volume.{RunVolume}
-use Rattle.table_commit.specs.Commit.{AreLetGo, AreReleasable, AreReleased, IsReleasable, addresses_of, allowed_in, dirty_in, settled, with_each}
+use Rattle.table_commit.specs.Commit.{AreLetGo, AreReleasable, AreReleased, IsReleasable, addresses_of, allowed_in, settled, with_each}
 use Rattle.table_commit.proofs.Gone.{all_allowed}
-use Rattle.tree_frame.specs.Frame.{AreCurrent, IsLeft}
-use Rattle.tree_frame.proofs.Reading.{IsReadTree, reach_taken, read_tree}
+use Rattle.tree_frame.specs.Frame.{AreCurrent}
+use Rattle.tree_frame.proofs.Reading.{IsReadTree, read_tree}
 use Rattle.tree_range.specs.Shape.{IsTree, tree_reach}
 use Rattle.volume_seal.specs.Sealed.{IsReady}
 use Rattle.volume_seal.proofs.States.{IsSameTree, same_tree}
 use Rattle.commit_blocks.specs.declared.kept.Kept.{Kept}
 use Rattle.commit_blocks.specs.Keeps.{HoldsCommit, IsGone, IsHeld, IsOut, IsTried, IsTurn, KeepsBlocks, numbered_at, old_roots, reach_there}
-use Rattle.commit_blocks.specs.Steps.{IsEnded, IsHanded, IsListOut, KeepsRest}
+use Rattle.commit_blocks.specs.Steps.{AreLetGoBehind, IsEnded, IsListOut, KeepsRest}
 use Rattle.commit_blocks.proofs.Back.{backed}
 use Rattle.commit_blocks.proofs.Counting.{once_fits}
 use Rattle.commit_blocks.proofs.Ends.{Ends, end_all, end_current, end_found, end_quiet}
 use Rattle.commit_blocks.proofs.Fates.{reach_of, states_current, states_taken}
-use Rattle.commit_blocks.proofs.Read.{GoesOn, each, ready_now}
-use Rattle.commit_blocks.proofs.Settling.{IsSettled, settled_dirty, settled_ends, settled_free, settled_gone, settled_readable, settled_releasable, settled_size, settled_slot, settled_taken, settled_tree, settled_was_dirty}
+use Rattle.commit_blocks.proofs.Read.{each, ready_now}
+use Rattle.commit_blocks.proofs.Settling.{IsSettled, settled_dirty, settled_ends, settled_free, settled_gone, settled_let_go, settled_releasable, settled_size, settled_slot, settled_taken, settled_tree, settled_was_dirty}
+
+one_is : (first commit : Commit) → Contains (first ∷ []) commit → first ≡ commit
+one_is first commit (zero, inside, same) = same
+one_is first commit (suc k, inside, same) = absurd (omega (arith, inside))
 
 module _ (old : Kept) (image : Image) (run : RunVolume) (scene : Scene) (keeps : KeepsBlocks old image run scene) (list : BlockList) (out : IsListOut old list) (root : Tree) (is : old.sealed ≡ Some root) where
   pub runs_out : IsOut old scene root
   runs_out = subst (IsTurn old scene) is keeps.turn
+
+  -- a block in use that wasn't let go was of the current volume, where it isn't of the root tree
+  pub was_current : (at : ℕ) → (Contains (tree_reach old.table root) at → ⊥) → (block_at old.table at).state ≢ Free → (block_at old.table at).state ≢ LetGo → Contains (reach_of old) at
+  was_current at not_root taken kept = elim (keeps.current.used at taken kept) [
+    | inl there ↦ there
+    | inr here ↦ absurd (not_root (subst (λ (tree : Option Tree). Contains (reach_there old.table tree) at) is here))
+  ]
 
   pub noted_was : (at : ℕ) → Contains (addresses_of old.let_go.items) at → (block_at old.table at).state ≡ LetGo
   noted_was at there = (All-contains (λ (a : ℕ). IsReleasable (block_at old.table a)) (addresses_of old.let_go.items) at runs_out.noted there).let_go
@@ -121,6 +131,55 @@ module _ (old : Kept) (image : Image) (run : RunVolume) (scene : Scene) (keeps :
         ]
       ]
 
+      accounted : (at : ℕ) → (block_at new.table at).state ≢ Free → (block_at new.table at).state ≢ LetGo → Contains (reach_of old) at
+      accounted at taken kept = elim (is_in (addresses_of old.let_go.items) at) [
+        | inl there ↦ absurd (taken (released_free at there))
+        | inr not_noted ↦ elim (is_in (tree_reach old.table root) at) [
+          | inl here ↦ absurd (kept (root_state at here))
+          | inr not_root ↦
+              let s = settled_now at not_noted not_root in
+              was_current at not_root ((ends at).came taken) (λ gone. kept (settled_let_go (block_at old.table at) (block_at new.table at) s gone))
+        ]
+      ]
+
+      root_read : IsReadTree old.table new.table root
+      root_read = read_tree old.table new.table root (each (λ (at : ℕ). IsTaken new.table at × ((block_at new.table at).bytes ≡ (block_at old.table at).bytes)) (tree_reach old.table root) (λ at here. (
+        record {
+          allowed = subst (λ (n : ℕ). IsAllowed n at) (sym rest.size) (keeps.current.allowed at (λ free. let w : Sealed ≡ Free = sym (runs_out.root_sealed at here) ∙ free in cc));
+          taken = λ free. let w : LetGo ≡ Free = sym (root_state at here) ∙ free in cc;
+        },
+        root_bytes at here,
+      )))
+
+      -- the root tree is let go, and what was noted is released
+      pub finish_let_go : new.last ≡ root → AreLetGoBehind old.table new.table (tree_reach new.table new.last) (addresses_of old.let_go.items)
+      finish_let_go last = record {
+        only = λ at gone. elim (is_in (addresses_of old.let_go.items) at) [
+          | inl there ↦ absurd (let w : Free ≡ LetGo = sym (released_free at there) ∙ gone in cc)
+          | inr not_noted ↦ elim (is_in (tree_reach old.table root) at) [
+            | inl here ↦ inl (subst (λ (l : List ℕ). Contains l at) (sym (last_is last)) here)
+            | inr not_root ↦ inr (settled_gone (block_at old.table at) (block_at new.table at) (settled_now at not_noted not_root) gone, not_noted)
+          ]
+        ];
+        made_so = λ at here. root_state at (subst (λ (l : List ℕ). Contains l at) (last_is last) here);
+        stays = λ at gone not_noted. settled_let_go (block_at old.table at) (block_at new.table at) (settled_now at not_noted (λ here. let w : Sealed ≡ LetGo = sym (runs_out.root_sealed at here) ∙ gone in cc)) gone;
+      }
+        where
+          last_is : new.last ≡ root → tree_reach new.table new.last ≡ tree_reach old.table root
+          last_is last = ap (λ (tree : Tree). tree_reach new.table tree) last ∙ root_read.reach
+
+      -- what is let go behind it is of the commit
+      gone_reached : (at : ℕ) → (block_at new.table at).state ≡ LetGo → Contains runs_out.commit.blocks (numbered_at new.table at)
+      gone_reached at gone = elim (is_in (addresses_of old.let_go.items) at) [
+        | inl there ↦ absurd (let w : Free ≡ LetGo = sym (released_free at there) ∙ gone in cc)
+        | inr not_noted ↦ elim (is_in (tree_reach old.table root) at) [
+          | inl here ↦ subst (λ (bytes : List ℕ). Contains runs_out.commit.blocks (at / 4096, bytes)) (sym (root_bytes at here)) (runs_out.root_reached at here)
+          | inr not_root ↦
+              let s = settled_now at not_noted not_root in
+              subst (λ (bytes : List ℕ). Contains runs_out.commit.blocks (at / 4096, bytes)) (sym s.bytes) (runs_out.since at (settled_gone (block_at old.table at) (block_at new.table at) s gone) not_noted)
+        ]
+      ]
+
       not_noted_reach : (at : ℕ) → Contains (reach_of old) at → Contains (addresses_of old.let_go.items) at → ⊥
       not_noted_reach at there noted = states_current old.table old.states.items run keeps.current.given at there (noted_was at noted)
 
@@ -139,15 +198,6 @@ module _ (old : Kept) (image : Image) (run : RunVolume) (scene : Scene) (keeps :
         down = settled_was_dirty (block_at old.table at) (block_at new.table at) (reach_settled at there);
         up = settled_dirty (block_at old.table at) (block_at new.table at) (reach_settled at there);
       }) keeps.current.ready
-
-      root_read : IsReadTree old.table new.table root
-      root_read = read_tree old.table new.table root (each (λ (at : ℕ). IsTaken new.table at × ((block_at new.table at).bytes ≡ (block_at old.table at).bytes)) (tree_reach old.table root) (λ at here. (
-        record {
-          allowed = subst (λ (n : ℕ). IsAllowed n at) (sym rest.size) (keeps.current.allowed at (λ free. let w : Sealed ≡ Free = sym (runs_out.root_sealed at here) ∙ free in cc));
-          taken = λ free. let w : LetGo ≡ Free = sym (root_state at here) ∙ free in cc;
-        },
-        root_bytes at here,
-      )))
 
       root_gone : IsGone new.table root
       root_gone = record {
@@ -223,15 +273,16 @@ module _ (old : Kept) (image : Image) (run : RunVolume) (scene : Scene) (keeps :
         found_held commit there =
             let one : Contains (runs_out.commit ∷ []) commit = subst (λ (l : List Commit). Contains l commit) alone there in
             subst (λ (c : Commit). HoldsCommit new.table c) (one_is runs_out.commit commit one) held_at
-          where
-            one_is : (first commit : Commit) → Contains (first ∷ []) commit → first ≡ commit
-            one_is first commit (zero, inside, same) = same
-            one_is first commit (suc k, inside, same) = absurd (omega (arith, inside))
+
+        pub finish_reached : (commit : Commit) → Contains scene.found commit → (at : ℕ) → (block_at new.table at).state ≡ LetGo → Contains commit.blocks (numbered_at new.table at)
+        finish_reached commit there at gone =
+            let one : Contains (runs_out.commit ∷ []) commit = subst (λ (l : List Commit). Contains l commit) alone there in
+            subst (λ (c : Commit). Contains c.blocks (numbered_at new.table at)) (one_is runs_out.commit commit one) (gone_reached at gone)
 
         pub finish_keeps : KeepsBlocks new image run next
         finish_keeps =
             end_all old new image run scene next keeps ended rest ends stays
-            (end_current old new image run scene next keeps ended rest ends stays ready free_now spare_now last_few (subst (λ (tree : Option Tree). length (reach_there new.table tree) ≤ 33) (sym failed) (omega arith)))
+            (end_current old new image run scene next keeps ended rest ends stays accounted ready free_now spare_now last_few (subst (λ (tree : Option Tree). length (reach_there new.table tree) ≤ 33) (sym failed) (omega arith)))
             (end_found old new image run scene next keeps ended rest ends stays found_held
             (λ at there live. subst (λ (l : List Commit). IsOfNewest l (numbered_at new.table at)) (sym alone) (newest_at at there live))
             (subst (IsGone new.table) (sym last) root_gone)

@@ -1,6 +1,6 @@
 -- Old root trees whose blocks stay as they were.
-use Rattle.std.proofs.Common.{◌≡◌, ◌∙◌, ◌++◌, ℕ, List, Option, Some, None, refl, sym, ap, subst, inl, inr}
-use Rattle.std.specs.Prelude.{All, Contains}
+use Rattle.std.proofs.Common.{◌≡◌, ◌∙◌, ◌++◌, ℕ, List, Option, Some, None, refl, ap, subst, inl, inr}
+use Rattle.std.specs.Prelude.{Contains}
 use Rattle.std.proofs.lemmas.List.Elements.{Contains-append_left, Contains-append_right}
 use Rattle.block_table.specs.declared.state.SlotState.TheVariants.{LetGo}
 use Rattle.block_table.specs.declared.tree.Tree.{Tree}
@@ -8,7 +8,7 @@ use Rattle.block_table.specs.Slot.{BlockSlot}
 use Rattle.block_table.specs.Table.{Table}
 use Rattle.block_table.specs.TreeIn.{block_at}
 use Rattle.tree_range.specs.Shape.{AreAlike, tree_reach}
-use Rattle.volume_seal.proofs.States.{IsSameTree, same_tree}
+use Rattle.volume_seal.proofs.States.{same_tree}
 use Rattle.commit_blocks.specs.Keeps.{IsGone, reach_there}
 use Rattle.commit_blocks.proofs.Read.{each}
 

@@ -1,9 +1,8 @@
 -- With which bytes blocks were handed out last.
-use Rattle.std.proofs.Common.{◌≡◌, ◌≢◌, ◌∙◌, ◌++◌, ◌/◌, ◌%◌, ◌==◌, ℕ, Bool, true, false, cond, List, [], ◌∷◌, map, Option, Some, refl, sym, ap, subst, arith, inl, inr}
+use Rattle.std.proofs.Common.{◌≡◌, ◌∙◌, ◌++◌, ◌/◌, ◌%◌, ℕ, Bool, cond, List, [], ◌∷◌, map, Some, refl, ap, arith, inl, inr}
 use Rattle.std.specs.Prelude.{Contains}
 use Rattle.std.proofs.lemmas.Bool.{cases_eq, eq-eqb, ne_eqb}
 use Rattle.blk_base.specs.Bytes.{Image}
-use Rattle.blk_base.specs.Trees.{AtBlock}
 use Rattle.blk_base.proofs.Members.{in_cons, in_head, in_nothing, in_tail}
 use Rattle.block_table.specs.Table.{Table}
 use Rattle.block_table.specs.TreeIn.{block_at}

@@ -1,14 +1,11 @@
 -- The table of a mounted volume once its root tree is let go.
-use Rattle.std.proofs.Common.{◌≡◌, ◌≢◌, ◌≤◌, ◌<◌, ◌+◌, ◌-◌, ◌*◌, ◌/◌, ◌%◌, ◌^◌, ◌++◌, ℕ, zero, suc, List, [], ◌∷◌, length, map, Option, Some, None, refl, sym, ap, subst, ◌∙◌, arith, inl, inr, length-append}
-use Rattle.std.specs.Prelude.{◌⊎◌, All, Contains, slice_get, slice_index_or, false, true}
-use Rattle.std.proofs.lemmas.List.Elements.{All-contains, All-contains_itself, All-weaker, Contains-append_cases, Contains-append_left, Contains-append_right}
-use Rattle.std.proofs.lemmas.Option.{slice_get-get_or}
+use Rattle.std.proofs.Common.{◌≡◌, ◌≢◌, ◌≤◌, ℕ, List, None, sym, ap, subst, ◌∙◌, arith, inl, inr}
+use Rattle.std.specs.Prelude.{◌⊎◌, All, Contains, true}
+use Rattle.std.proofs.lemmas.List.Elements.{All-contains, Contains-append_cases}
 use Rattle.blk_base.specs.Address.{IsAllowed}
-use Rattle.blk_base.specs.Bytes.{Image}
-use Rattle.blk_base.specs.Trees.{NoneTwice}
 use Rattle.blk_base.proofs.Members.{once_apart, once_left}
 use Rattle.block_table.specs.declared.state.SlotState.{SlotState}
-use Rattle.block_table.specs.declared.state.SlotState.TheVariants.{Dirty, Free, LetGo, Live, Sealed}
+use Rattle.block_table.specs.declared.state.SlotState.TheVariants.{Dirty, Free, LetGo, Live}
 use Rattle.block_table.specs.declared.tree.SubState.{SubState}
 use Rattle.block_table.specs.Slot.{BlockSlot}
 use Rattle.block_table.specs.Table.{Table, free_blocks}
@@ -20,13 +17,11 @@ use Rattle.table_volume.specs.Running.{GiveVolume}
 use Rattle.tree_frame.proofs.Reading.{IsReadTree, IsReadable, read_tree, reach_taken}
 use Rattle.tree_mount.specs.declared.mounted.Mounted.{Mounted}
 use Rattle.tree_mount.specs.Mounted.{IsReadyMount, mount_reach}
-use Rattle.tree_range.specs.Shape.{IsTree, tree_reach}
+use Rattle.tree_range.specs.Shape.{tree_reach}
 use Rattle.tree_range.proofs.Local.{taken_alike}
 use Rattle.volume_seal.specs.Sealed.{IsReady, states_reach}
 use Rattle.volume_seal.proofs.States.{all_taken}
-use Rattle.volume_image.specs.Stands.{free_of, mount_need}
-use Rattle.commit_blocks.specs.Keeps.{BusyIsAbove, IsBusy, IsGone}
-use Rattle.commit_blocks.proofs.Busy.{busy_or_not}
+use Rattle.commit_blocks.specs.Keeps.{IsGone}
 use Rattle.commit_blocks.proofs.MountCount.{used_and_free_are_many}
 use Rattle.commit_blocks.proofs.Read.{GoesOn, each, given_now, reach_now, ready_now}
 

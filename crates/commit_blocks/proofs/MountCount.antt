@@ -1,17 +1,17 @@
 -- How many blocks are Free, by how many stand at addresses that a volume may use.
-use Rattle.std.proofs.Common.{◌≡◌, ◌≢◌, ◌≤◌, ◌<◌, ◌+◌, ◌*◌, ◌-◌, ◌/◌, ◌%◌, ◌&&◌, ◌==◌, ℕ, zero, suc, Bool, true, false, not, cond, List, [], ◌∷◌, length, Contains, refl, sym, ap, subst, ◌∙◌, arith, inl, inr}
-use Rattle.std.specs.Prelude.{nat_le, slice_index_or}
+use Rattle.std.proofs.Common.{◌≡◌, ◌≢◌, ◌≤◌, ◌+◌, ◌*◌, ◌-◌, ◌&&◌, ◌==◌, ℕ, suc, Bool, true, false, not, cond, List, [], ◌∷◌, length, Contains, refl, sym, ap, subst, arith, inl, inr}
+use Rattle.std.specs.Prelude.{nat_le}
 use Rattle.std.proofs.lemmas.Bool.{cases_eq, cases_lt, ne_eqb, le-leb}
 use Rattle.blk_base.specs.declared.format.TheConstants.{COPY_BLOCK, FIRST_BLOCK}
 use Rattle.blk_base.specs.Trees.{NoneTwice}
 use Rattle.block_table.specs.declared.state.SlotState.TheVariants.{Free}
-use Rattle.block_table.specs.Slot.{BlockSlot, free_slot, is_free}
-use Rattle.block_table.specs.Table.{Table, free_blocks, free_from, free_one, is_free_block}
+use Rattle.block_table.specs.Slot.{BlockSlot, is_free}
+use Rattle.block_table.specs.Table.{Table, free_blocks, free_from, free_one}
 use Rattle.block_table.specs.TreeIn.{block_at}
 use Rattle.image_faults.specs.Faulty.{StandOnce}
 use Rattle.image_faults.specs.Lists.{fewer}
-use Rattle.tree_load.specs.Loaded.{AreTaken, taken_from, taken_of}
-use Rattle.tree_load.proofs.Taken.{block_aligned, not_free, taken_are}
+use Rattle.tree_load.specs.Loaded.{taken_from, taken_of}
+use Rattle.tree_load.proofs.Taken.{taken_are}
 use Rattle.volume_image.proofs.Lists.{in_cons, in_nothing}
 
 long_if : (b : Bool) (at : ℕ) (rest : List ℕ) → length (cond b rest (at ∷ rest)) ≡ cond b (length rest) (suc (length rest))
@@ -36,7 +36,7 @@ listed_once number (slot ∷ slots) = go (is_free slot.state) (listed_once (numb
     go true later = later
     go false later = ((λ c. let low = above (number + 1) slots (4096 * number) c in omega arith), later)
 
-to_once : (xs : List ℕ) → NoneTwice xs → StandOnce xs
+pub to_once : (xs : List ℕ) → NoneTwice xs → StandOnce xs
 to_once [] n = tt
 to_once (x ∷ xs) n = (n.0, to_once xs n.1)
 

@@ -1,7 +1,7 @@
 -- A mounted volume is kept with the superblock that was found.
-use Rattle.std.proofs.Common.{◌≡◌, ◌≢◌, ◌≤◌, ◌<◌, ◌+◌, ◌-◌, ◌*◌, ◌/◌, ◌%◌, ◌^◌, ◌++◌, ℕ, zero, suc, List, [], ◌∷◌, length, map, Option, Some, None, Vec, Global, refl, sym, ap, subst, ◌∙◌, arith, inl, inr, append-nil, length-append}
-use Rattle.std.specs.Prelude.{◌⊎◌, All, Contains, slice_get, slice_index_or, vec_capacity, false, Bool, nat_le, if◌then◌else◌}
-use Rattle.std.proofs.lemmas.List.Elements.{All-contains, Contains-append_right}
+use Rattle.std.proofs.Common.{◌≡◌, ◌≢◌, ◌≤◌, ◌+◌, ◌*◌, ◌/◌, ◌%◌, ◌++◌, ℕ, zero, suc, List, [], ◌∷◌, length, Some, None, Vec, Global, refl, sym, ap, subst, ◌∙◌, arith, inl, inr, append-nil, length-append}
+use Rattle.std.specs.Prelude.{◌⊎◌, Contains, slice_get, vec_capacity, false, Bool, if◌then◌else◌}
+use Rattle.std.proofs.lemmas.List.Elements.{Contains-append_cases, Contains-append_right}
 use Rattle.std.proofs.lemmas.Option.{slice_get-get_or}
 use Rattle.std.proofs.lemmas.Bool.{cases_lt, le-leb, lt-leb}
 use Rattle.blk_base.specs.declared.key.Addr.{Addr}
@@ -9,16 +9,14 @@ use Rattle.blk_base.specs.Address.{IsAllowed}
 use Rattle.blk_base.specs.Bytes.{Image}
 use Rattle.blk_base.specs.Leaf.{Pointer}
 use Rattle.blk_base.specs.Trees.{NoneTwice}
-use Rattle.blk_base.proofs.Members.{in_cons, in_nothing, is_in, once_left}
-use Rattle.block_table.specs.declared.state.SlotState.{SlotState}
+use Rattle.blk_base.proofs.Members.{in_nothing, is_in, once_left}
 use Rattle.block_table.specs.declared.state.SlotState.TheVariants.{Dirty, Free, LetGo, Live, Sealed}
 use Rattle.block_table.specs.declared.tree.SubState.{SubState}
-use Rattle.block_table.specs.declared.tree.Tree.{Tree}
 use Rattle.block_table.specs.Slot.{BlockSlot}
-use Rattle.block_table.specs.Table.{Table, free_blocks}
-use Rattle.block_table.specs.TreeIn.{IsTaken, block_at}
+use Rattle.block_table.specs.Table.{Table}
+use Rattle.block_table.specs.TreeIn.{block_at}
 use Rattle.commit_core.specs.Sealed.{IsOfNewest}
-use Rattle.commit_images.specs.Scene.{Commit, Scene, first_scene}
+use Rattle.commit_images.specs.Scene.{Commit, first_scene}
 use Rattle.disk_model.specs.Disk.{Held}
 use Rattle.flat_model.specs.Volume.{RunVolume}
 use Rattle.table_commit.specs.Commit.{AreLetGo}
@@ -28,8 +26,9 @@ use Rattle.tree_range.specs.Shape.{node_pointers, reach_below, tree_reach}
 use Rattle.volume_image.proofs.Members.{in_map, map_in}
 use Rattle.volume_seal.specs.Sealed.{states_reach}
 use Rattle.commit_blocks.specs.declared.kept.Kept.{Kept}
-use Rattle.commit_blocks.specs.Keeps.{BusyIsAbove, HoldsCommit, IsBusy, IsCurrent, IsFound, IsHeld, IsQuiet, KeepsBlocks, blocks_at, numbered_at, old_roots, roots_room}
+use Rattle.commit_blocks.specs.Keeps.{BusyIsAbove, HoldsCommit, IsBusy, IsCurrent, IsFound, IsHeld, IsQuiet, KeepsBlocks, numbered_at, roots_room}
 use Rattle.commit_blocks.specs.Mounting.{IsMountOf}
+use Rattle.commit_blocks.specs.Steps.{AreLetGoBehind}
 use Rattle.commit_blocks.proofs.MountBlocks.{bytes_same, enough, gives_now, known, others_now, reach_same, root_gone, root_now, root_same, seals_now, state_now, taken, used_before}
 use Rattle.commit_blocks.proofs.Read.{each}
 
@@ -108,6 +107,26 @@ module _ (m : Mounted) (count : ℕ) (ready : IsReadyMount m count) (new : Table
     | inr live ↦ let wrong : Live ≡ Free = sym live ∙ free in cc
   ]
 
+  pub mount_let_go : AreLetGoBehind old new (tree_reach new m.root) []
+  mount_let_go = record {
+    only = λ at let_go_now. elim (is_in (tree_reach old m.root) at) [
+      | inl there ↦ inl (subst (λ (l : List ℕ). Contains l at) (sym (root_same m count ready new gone)) there)
+      | inr out ↦ inr (ap (λ (slot : BlockSlot). slot.state) (sym (others_now m count ready new gone at out)) ∙ let_go_now, in_nothing at)
+    ];
+    made_so = λ at here. ap (λ (slot : BlockSlot). slot.state) (root_now m count ready new gone at (subst (λ (l : List ℕ). Contains l at) (root_same m count ready new gone) here));
+    stays = λ at was _. elim (ready.live at) [
+      | inl free ↦ absurd (let w : Free ≡ LetGo = sym free ∙ was in cc)
+      | inr live ↦ absurd (let w : Live ≡ LetGo = sym live ∙ was in cc)
+    ];
+  }
+
+  -- no block leaks: all that the image has is of the root tree or of the volume
+  accounted : (at : ℕ) → (block_at new at).state ≢ Free → (block_at new at).state ≢ LetGo → Contains (states_reach new states) at
+  accounted at used kept_now = elim (Contains-append_cases (tree_reach old m.root) (states_reach old states) at (in_reach at used)) [
+    | inl root ↦ absurd (kept_now (ap (λ (slot : BlockSlot). slot.state) (root_now m count ready new gone at root)))
+    | inr state ↦ subst (λ (l : List ℕ). Contains l at) (sym (reach_same m count ready new gone)) state
+  ]
+
   -- ---- how much there is
   root_some : 1 ≤ length (tree_reach old m.root)
   root_some = some_below m.root.level old m.root.root.0
@@ -141,6 +160,7 @@ module _ (m : Mounted) (count : ℕ) (ready : IsReadyMount m count) (new : Table
       ready = seals_now m count ready new gone;
       above = each (λ (state : SubState). BusyIsAbove state.tree.level new state.tree.root.0) states (λ state there. none_above state.tree.level new state.tree.root.0 (λ block busy. elim busy [ inl dirty ↦ absurd (not_dirty block dirty) | inr is ↦ absurd (not_sealed block is) ]));
       allowed = λ at used. subst (λ (n : ℕ). IsAllowed n at) (sym gone.size) (allowed_at at (in_reach at used));
+      used = λ at used kept_now. inl (accounted at used kept_now);
       fits = subst (λ (n : ℕ). n ≤ length new.slots) (let r : ℕ = roots_room (length states) in let e : length (states_reach new states) + (198 + r) ≡ length (states_reach new states) + r + 198 = omega arith in e) (fits (roots_room (length states)) roots_least);
       last_few = subst (λ (l : List ℕ). length l ≤ 33) (sym (root_same m count ready new gone)) ready.root_few;
       failed_few = omega arith;

@@ -1,25 +1,23 @@
 -- Which commit stands for a mounted volume.
-use Rattle.std.proofs.Common.{◌≡◌, ◌≢◌, ◌≤◌, ◌<◌, ◌+◌, ◌*◌, ◌/◌, ◌%◌, ◌++◌, ℕ, zero, suc, true, List, [], ◌∷◌, length, map, Some, refl, sym, ap, subst, ◌∙◌, arith, inl, inr}
-use Rattle.std.specs.Prelude.{All, Contains, slice_get, slice_index_or}
+use Rattle.std.proofs.Common.{◌≡◌, ◌≤◌, ◌<◌, ◌/◌, ℕ, true, List, [], length, Some, refl, sym, ap, subst, ◌∙◌, arith, inl, inr}
+use Rattle.std.specs.Prelude.{Contains, slice_get}
 use Rattle.std.proofs.lemmas.List.Elements.{All-contains, Contains-append_cases}
 use Rattle.std.proofs.lemmas.Option.{slice_get-get_or}
 use Rattle.blk_base.specs.Bytes.{Image}
-use Rattle.block_table.specs.Table.{Table}
 use Rattle.block_table.specs.TreeIn.{IsTaken, block_at}
 use Rattle.commit_images.specs.Scene.{Commit, HasCommit, StandsFor}
-use Rattle.flat_model.specs.Volume.{RunVolume, Volume, mounted}
+use Rattle.flat_model.specs.Volume.{Volume, mounted}
 use Rattle.image_order.specs.FirstFault.{volume_in}
-use Rattle.table_volume.specs.Running.{GiveVolume}
 use Rattle.tree_frame.proofs.Reading.{reach_taken}
 use Rattle.tree_mount.specs.declared.mounted.Mounted.{Mounted}
 use Rattle.tree_mount.specs.Mounted.{IsMountedAs, IsReadyMount, mount_reach}
 use Rattle.tree_range.specs.Shape.{tree_reach}
-use Rattle.volume_image.specs.Stands.{AgreesOn, Stands, StandsBy}
+use Rattle.volume_image.specs.Stands.{AgreesOn, Stands}
 use Rattle.volume_image.proofs.Members.{in_map, map_in}
 use Rattle.volume_image.proofs.Standing.{stands_local}
 use Rattle.volume_seal.specs.Sealed.{states_reach}
 use Rattle.volume_seal.proofs.States.{all_taken}
-use Rattle.commit_blocks.specs.Keeps.{blocks_at, numbered_at}
+use Rattle.commit_blocks.specs.Keeps.{numbered_at}
 use Rattle.commit_blocks.specs.Mounting.{IsMountOf, mount_commit}
 use Rattle.commit_blocks.proofs.Read.{each}
 

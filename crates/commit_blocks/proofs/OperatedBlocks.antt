@@ -1,9 +1,9 @@
 -- What an edit of the volume's blocks leaves of those that superblocks reach.
-use Rattle.std.proofs.Common.{◌≡◌, ◌≢◌, ◌∙◌, ◌*◌, ◌/◌, ℕ, List, Option, Some, None, Bool, refl, sym, ap, subst, inl, inr}
-use Rattle.std.specs.Prelude.{◌⊎◌, All, Contains}
+use Rattle.std.proofs.Common.{◌≡◌, ◌≢◌, ◌∙◌, ◌*◌, ℕ, List, Option, Some, None, refl, sym, ap, subst, inl, inr}
+use Rattle.std.specs.Prelude.{◌⊎◌, Contains}
 use Rattle.blk_base.proofs.Members.{is_in}
 use Rattle.block_table.specs.declared.state.SlotState.{SlotState}
-use Rattle.block_table.specs.declared.state.SlotState.TheVariants.{Dirty, Free, LetGo, Live, Sealed}
+use Rattle.block_table.specs.declared.state.SlotState.TheVariants.{Dirty, Free, LetGo}
 use Rattle.block_table.specs.declared.tree.Tree.{Tree}
 use Rattle.block_table.specs.Slot.{BlockSlot}
 use Rattle.block_table.specs.Table.{Table}
@@ -11,9 +11,9 @@ use Rattle.block_table.specs.TreeIn.{block_at}
 use Rattle.commit_images.specs.Scene.{Commit}
 use Rattle.tree_frame.specs.Frame.{IsEdit}
 use Rattle.tree_frame.proofs.EditLaws.{is_dirty}
-use Rattle.tree_range.specs.Shape.{AreAlike, IsTree, tree_reach}
+use Rattle.tree_range.specs.Shape.{AreAlike, tree_reach}
 use Rattle.tree_range.proofs.Local.{tree_alike}
-use Rattle.commit_blocks.specs.Keeps.{HoldsCommit, IsGone, IsHeld, numbered_at, reach_there}
+use Rattle.commit_blocks.specs.Keeps.{HoldsCommit, IsGone, IsHeld, reach_there}
 use Rattle.commit_blocks.proofs.Read.{each}
 
 -- a block that was let go, as it was before

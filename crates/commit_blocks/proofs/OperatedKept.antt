@@ -1,9 +1,9 @@
 -- An operation keeps what a volume keeps of blocks.
-use Rattle.std.proofs.Common.{◌≡◌, ◌≢◌, ◌∙◌, ◌≤◌, ◌<◌, ◌+◌, ◌*◌, ◌/◌, ◌++◌, ℕ, List, [], ◌∷◌, length, map, Option, Some, None, Vec, Global, refl, sym, ap, subst, arith, inl, inr}
-use Rattle.std.specs.Prelude.{◌⊎◌, All, Contains, vec_capacity, false, true, Bool, nat_le, if◌then◌else◌}
+use Rattle.std.proofs.Common.{◌≡◌, ◌≢◌, ◌∙◌, ◌≤◌, ◌+◌, ◌/◌, ◌++◌, ℕ, List, length, map, Option, Some, None, Vec, Global, refl, sym, ap, subst, arith, inl, inr}
+use Rattle.std.specs.Prelude.{◌⊎◌, Contains, vec_capacity, false, true, Bool, nat_le, if◌then◌else◌}
 use Rattle.std.proofs.lemmas.Bool.{cases_eq}
 use Rattle.std.proofs.lemmas.List.{length-map}
-use Rattle.std.proofs.lemmas.List.Elements.{All-contains, All-contains_itself}
+use Rattle.std.proofs.lemmas.List.Elements.{All-contains}
 use Rattle.blk_base.specs.Address.{IsAllowed}
 use Rattle.blk_base.specs.Bytes.{Image}
 use Rattle.blk_base.specs.Trees.{AtBlock, NoneTwice}
@@ -17,24 +17,24 @@ use Rattle.block_table.specs.Slot.{BlockSlot}
 use Rattle.block_table.specs.Table.{Table, free_blocks}
 use Rattle.block_table.specs.TreeIn.{IsTaken, block_at}
 use Rattle.commit_core.specs.Sealed.{IsOfNewest}
-use Rattle.commit_images.specs.Admissible.{last_bytes}
-use Rattle.commit_images.specs.Scene.{Commit, IsWritten, NotTried, Reaches, Scene}
+use Rattle.commit_images.specs.Scene.{Commit, Scene}
 use Rattle.flat_model.specs.declared.answer.Answer.{Answer}
 use Rattle.flat_model.specs.declared.op.Op.{Op}
 use Rattle.flat_model.specs.Needs.{need}
 use Rattle.flat_model.specs.Step.{step}
 use Rattle.flat_model.specs.Volume.{RunVolume, subvolume_ids}
-use Rattle.table_commit.specs.Commit.{AreReleasable, IsReleasable, addresses_of}
+use Rattle.table_commit.specs.Commit.{IsReleasable, addresses_of}
 use Rattle.table_volume.specs.Gives.{sub_reach}
-use Rattle.table_volume.specs.Running.{GiveVolume, GivesPart, id_of}
+use Rattle.table_volume.specs.Running.{GiveVolume, id_of}
+use Rattle.tree_frame.proofs.EditLaws.{is_dirty}
 use Rattle.tree_frame.proofs.Reading.{all_joined}
 use Rattle.tree_range.specs.Shape.{IsTree, tree_reach}
 use Rattle.volume_ops.specs.Done.{IsDone}
 use Rattle.volume_seal.specs.Sealed.{states_reach}
 use Rattle.volume_seal.proofs.States.{all_taken}
 use Rattle.commit_blocks.specs.declared.kept.Kept.{Kept}
-use Rattle.commit_blocks.specs.Keeps.{AreApart, AreApartFromFirst, BusyIsAbove, HoldsCommit, IsCurrent, IsFound, IsGone, IsOut, IsQuiet, IsTried, IsTurn, IsUntried, KeepsBlocks, numbered_at, old_roots, reach_there, roots_room}
-use Rattle.commit_blocks.specs.Operating.{HasRoomFor, IsKeptOperated}
+use Rattle.commit_blocks.specs.Keeps.{AreApart, AreApartFromFirst, HoldsCommit, IsCurrent, IsFound, IsOut, IsQuiet, IsTried, IsTurn, IsUntried, KeepsBlocks, numbered_at, old_roots, reach_there, roots_room}
+use Rattle.commit_blocks.specs.Operating.{HasRoomFor, IsKeptOperated, LetsGoLeft}
 use Rattle.commit_blocks.specs.Steps.{IsListOut}
 use Rattle.commit_blocks.proofs.MountCount.{used_and_free_fit}
 use Rattle.commit_blocks.proofs.OperatedBlocks.{CameFrom, came_from, gone_same, gone_still, gone_there, holds_still, let_go_stays, same_state, stood_so, unedited}
@@ -197,6 +197,25 @@ module _ (old : Kept) (image : Image) (run : RunVolume) (scene : Scene) (op : Op
     ])
   ]
 
+  -- no block leaks: one that is left is Free or let go
+  accounted : (at : ℕ) → (block_at table at).state ≢ Free → (block_at table at).state ≢ LetGo → Contains after at ⊎ Contains (reach_there table old.sealed) at
+  accounted at taken kept = elim (is_in after at) [
+    | inl here ↦ inl here
+    | inr none ↦ elim (is_in before at) [
+      | inl there ↦ elim (is_dirty (block_at old.table at).state) [
+        | inl dirty ↦ absurd (taken ((done.edit.left at there none).dirty dirty))
+        | inr was ↦ absurd (kept (ap (λ (slot : BlockSlot). slot.state) ((done.edit.left at there none).written was)))
+      ]
+      | inr out ↦ elim (done.edit.others at out none) [
+        | inl same ↦ elim (keeps.current.used at (λ free. taken (same_state old.table table at same ∙ free)) (λ gone. kept (same_state old.table table at same ∙ gone))) [
+          | inl there ↦ absurd (out there)
+          | inr root ↦ inr (subst (λ (l : List ℕ). Contains l at) (sym (sealed_same old.sealed keeps.turn)) root)
+        ]
+        | inr both ↦ absurd (taken both.after)
+      ]
+    ]
+  ]
+
   is_current : IsCurrent new next
   is_current = record {
     least = subst (λ (n : ℕ). 4096 ≤ n) (sym done.edit.size) keeps.current.least;
@@ -209,6 +228,7 @@ module _ (old : Kept) (image : Image) (run : RunVolume) (scene : Scene) (op : Op
     ready = done.ready old.fsid keeps.current.ready;
     above = next_above old.table table old.fsid run next old.states.items states.items done.states keeps.current.given.each done.given.each keeps.current.ready (done.ready old.fsid keeps.current.ready) (λ at there here. done.edit.kept at there here) keeps.current.above;
     allowed = allowed;
+    used = accounted;
     fits = fits;
     free = enough;
     last_few = subst (λ (l : List ℕ). length l ≤ 33) (sym last_same) keeps.current.last_few;
@@ -290,6 +310,15 @@ module _ (old : Kept) (image : Image) (run : RunVolume) (scene : Scene) (op : Op
     in_root : (at : ℕ) → Contains (tree_reach table root) at → Contains (tree_reach old.table root) at
     in_root at there = subst (λ (l : List ℕ). Contains l at) (root_alike root h).1 there
 
+    -- what is let go now was of the volume, and not Dirty
+    since : (at : ℕ) → (block_at table at).state ≡ LetGo → (Contains (addresses_of old.let_go.items) at → ⊥) → Contains h.commit.blocks (numbered_at table at)
+    since at gone not_noted =
+        let from = came at (λ free. let w : LetGo ≡ Free = sym gone ∙ free in cc) (λ dirty. let w : LetGo ≡ Dirty = sym gone ∙ dirty in cc) in
+        elim from.fate [
+          | inl same ↦ subst (Contains h.commit.blocks) (sym (same_number at same)) (h.since at (sym (same_state old.table table at same) ∙ gone) not_noted)
+          | inr left ↦ subst (λ (bytes : List ℕ). Contains h.commit.blocks (at / 4096, bytes)) (ap (λ (slot : BlockSlot). slot.bytes) (sym left.1)) (h.reaches at left.0 from.not_dirty)
+        ]
+
     is_out : IsOut new scene root
     is_out = record {
       commit = h.commit;
@@ -305,6 +334,8 @@ module _ (old : Kept) (image : Image) (run : RunVolume) (scene : Scene) (op : Op
       reaches = λ at here clean.
           let was = clean_before at here clean in
           subst (Contains h.commit.blocks) (sym (same_number at was.1)) (h.reaches at was.0 (λ dirty. clean (same_state old.table table at was.1 ∙ dirty)));
+      root_reached = λ at there. subst (Contains h.commit.blocks) (sym (same_number at (root_so root h at (in_root at there)))) (h.root_reached at (in_root at there));
+      since = since;
       noted_once = h.noted_once;
       noted = each (λ (at : ℕ). IsReleasable (block_at table at)) (addresses_of old.let_go.items) (λ at there.
           let was : IsReleasable (block_at old.table at) = All-contains (λ (a : ℕ). IsReleasable (block_at old.table a)) (addresses_of old.let_go.items) at h.noted there in
@@ -348,6 +379,18 @@ module _ (old : Kept) (image : Image) (run : RunVolume) (scene : Scene) (op : Op
     has = λ at handed. elim handed [ inl is ↦ sealed_still list h at is | inr is ↦ let_go_still list h at is ];
   }
 
+  -- ---- blocks that were let go
+  lets_go : LetsGoLeft old new
+  lets_go = record {
+    only = λ at gone. elim (came at (λ free. let w : LetGo ≡ Free = sym gone ∙ free in cc) (λ dirty. let w : LetGo ≡ Dirty = sym gone ∙ dirty in cc)).fate [
+      | inl same ↦ inl (sym (same_state old.table table at same) ∙ gone)
+      | inr left ↦ inr (left.0, λ here. volume_current table states.items next done.given at here gone)
+    ];
+    stays = λ at gone. same_state old.table table at (let_go_so at gone) ∙ gone;
+    dirty = λ at there none is. (done.edit.left at there none).dirty is;
+    written = λ at there none was. ap (λ (slot : BlockSlot). slot.state) ((done.edit.left at there none).written was);
+  }
+
   pub is_kept_operated : IsKeptOperated old new image run scene op answer
   is_kept_operated = record {
     indexes = done.indexes;
@@ -356,4 +399,5 @@ module _ (old : Kept) (image : Image) (run : RunVolume) (scene : Scene) (op : Op
     said = done.said;
     keeps = record { current = is_current; found = is_found; turn = is_turn old.sealed keeps.turn };
     taken = done.taken;
+    let_go = lets_go;
   }

@@ -1,5 +1,5 @@
 -- What an operation's result says of what a volume keeps.
-use Rattle.std.proofs.Common.{◌≡◌, ◌∙◌, ℕ, List, length, Result, Ok, Err, Vec, Global, refl, sym, ap, subst}
+use Rattle.std.proofs.Common.{◌≡◌, ◌∙◌, List, length, Result, Ok, Err, Vec, Global, sym, ap, subst}
 use Rattle.std.specs.Prelude.{IfOk, OnErr}
 use Rattle.blk_base.specs.Bytes.{Image}
 use Rattle.block_table.specs.declared.tree.SubState.{SubState}

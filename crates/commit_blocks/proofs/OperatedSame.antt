@@ -1,12 +1,11 @@
 -- What a volume keeps depends on the list of its states, and not on where that stands.
-use Rattle.std.proofs.Common.{◌≡◌, ◌≢◌, ◌∙◌, ◌≤◌, ◌<◌, ◌+◌, ◌*◌, ◌/◌, ◌++◌, ℕ, List, length, map, Option, Some, None, Vec, Global, refl, sym, ap, subst}
-use Rattle.std.specs.Prelude.{All, Contains}
+use Rattle.std.proofs.Common.{◌≡◌, ◌≢◌, ◌≤◌, ◌+◌, ℕ, List, length, map, Option, Some, None, Vec, Global, sym, subst}
+use Rattle.std.specs.Prelude.{◌⊎◌, All, Contains}
 use Rattle.blk_base.specs.Bytes.{Image}
 use Rattle.block_table.specs.declared.tree.SubState.{SubState}
 use Rattle.block_table.specs.declared.tree.Tree.{Tree}
-use Rattle.block_table.specs.Table.{Table}
 use Rattle.block_table.specs.TreeIn.{block_at}
-use Rattle.block_table.specs.declared.state.SlotState.TheVariants.{Dirty, Live}
+use Rattle.block_table.specs.declared.state.SlotState.TheVariants.{Dirty, Free, LetGo, Live}
 use Rattle.commit_core.specs.Sealed.{IsOfNewest}
 use Rattle.commit_images.specs.Scene.{Scene}
 use Rattle.flat_model.specs.Volume.{RunVolume, subvolume_ids}
@@ -14,7 +13,7 @@ use Rattle.table_volume.specs.Running.{GiveVolume, id_of}
 use Rattle.tree_range.specs.Shape.{tree_reach}
 use Rattle.volume_seal.specs.Sealed.{IsReady, states_reach}
 use Rattle.commit_blocks.specs.declared.kept.Kept.{Kept}
-use Rattle.commit_blocks.specs.Keeps.{BusyIsAbove, IsCurrent, IsFound, IsOut, IsQuiet, IsTried, IsTurn, IsUntried, KeepsBlocks, numbered_at, roots_room}
+use Rattle.commit_blocks.specs.Keeps.{BusyIsAbove, IsCurrent, IsFound, IsTurn, KeepsBlocks, numbered_at, reach_there, roots_room}
 
 module _ (old : Kept) (image : Image) (run : RunVolume) (scene : Scene) (states : Vec SubState Global) (same : states.items ≡ old.states.items) where
   abbrev pub with_states : Kept
@@ -45,6 +44,7 @@ module _ (old : Kept) (image : Image) (run : RunVolume) (scene : Scene) (states 
     ready = moved (All (λ (state : SubState). IsReady old.table state.tree old.fsid)) h.ready;
     above = moved (All (λ (state : SubState). BusyIsAbove state.tree.level old.table state.tree.root.0)) h.above;
     allowed = h.allowed;
+    used = moved (λ (l : List SubState). (at : ℕ) → (block_at old.table at).state ≢ Free → (block_at old.table at).state ≢ LetGo → Contains (states_reach old.table l) at ⊎ Contains (reach_there old.table old.sealed) at) h.used;
     fits = moved (λ (l : List SubState). length (states_reach old.table l) + roots_room (length l) + 198 ≤ length old.table.slots) h.fits;
     last_few = h.last_few;
     failed_few = h.failed_few;
@@ -77,6 +77,8 @@ module _ (old : Kept) (image : Image) (run : RunVolume) (scene : Scene) (states 
     root_apart = moved (λ (l : List SubState). (at : ℕ) → Contains (tree_reach old.table root) at → Contains (states_reach old.table l) at → ⊥) h.root_apart;
     held = h.held;
     reaches = moved (λ (l : List SubState). (at : ℕ) → Contains (states_reach old.table l) at → (block_at old.table at).state ≢ Dirty → Contains h.commit.blocks (numbered_at old.table at)) h.reaches;
+    root_reached = h.root_reached;
+    since = h.since;
     noted_once = h.noted_once;
     noted = h.noted;
     noted_apart = h.noted_apart;

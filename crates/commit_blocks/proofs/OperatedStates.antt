@@ -1,9 +1,7 @@
 -- The states of subvolumes behind an operation.
-use Rattle.std.proofs.Common.{◌≡◌, ◌≢◌, ◌∙◌, ℕ, List, [], ◌∷◌, ◌++◌, length, map, refl, sym, ap, subst, inl, inr}
-use Rattle.std.specs.Prelude.{◌⊎◌, All, Contains}
+use Rattle.std.proofs.Common.{◌≡◌, ◌∙◌, ℕ, List, [], ◌∷◌, map, refl, sym, subst, inl}
+use Rattle.std.specs.Prelude.{All, Contains}
 use Rattle.std.proofs.lemmas.List.Elements.{All-cons, All-head, All-nil, All-tail, Contains-append_left, Contains-append_right}
-use Rattle.block_table.specs.declared.state.SlotState.{SlotState}
-use Rattle.block_table.specs.declared.state.SlotState.TheVariants.{Dirty}
 use Rattle.block_table.specs.declared.tree.SubState.{SubState}
 use Rattle.block_table.specs.declared.tree.Tree.{Tree}
 use Rattle.block_table.specs.Table.{Table}

@@ -1,6 +1,6 @@
 -- A volume whose blocks keep their bytes, where none of them is let go.
-use Rattle.std.proofs.Common.{◌≡◌, ◌≢◌, ◌∙◌, ℕ, zero, suc, List, [], ◌∷◌, ◌++◌, refl, sym, ap, subst, inl, inr}
-use Rattle.std.specs.Prelude.{◌⊎◌, All, Contains, slice_index_or, map}
+use Rattle.std.proofs.Common.{◌≡◌, ◌≢◌, ℕ, zero, suc, List, [], sym, ap, subst, inl}
+use Rattle.std.specs.Prelude.{All, Contains, slice_index_or}
 use Rattle.std.specs.List.{flat_map}
 use Rattle.std.proofs.lemmas.List.Elements.{All-contains_itself, All-head, All-tail, All-weaker, Contains-append_left}
 use Rattle.blk_base.specs.declared.key.Want.{Want}
@@ -9,16 +9,14 @@ use Rattle.blk_base.specs.Trees.{NoneTwice, child_want}
 use Rattle.block_table.specs.declared.state.SlotState.{SlotState}
 use Rattle.block_table.specs.declared.state.SlotState.TheVariants.{Dirty, LetGo}
 use Rattle.block_table.specs.declared.tree.SubState.{SubState}
-use Rattle.block_table.specs.declared.tree.Tree.{Tree}
-use Rattle.block_table.specs.Slot.{BlockSlot}
 use Rattle.block_table.specs.Table.{Table}
-use Rattle.block_table.specs.TreeIn.{IsSealedBlock, IsSealedSubtree, IsTaken, block_at}
+use Rattle.block_table.specs.TreeIn.{IsSealedBlock, IsSealedSubtree, block_at}
 use Rattle.flat_model.specs.Volume.{RunVolume}
 use Rattle.table_volume.specs.Gives.{sub_reach, tree_data}
-use Rattle.table_volume.specs.Running.{GiveVolume, GivesPart, GivesRun, id_of}
-use Rattle.table_volume.proofs.Giving.{IsReadSub, gives_by_bytes, read_sub, subvolume_taken}
+use Rattle.table_volume.specs.Running.{GiveVolume, GivesPart}
+use Rattle.table_volume.proofs.Giving.{IsReadSub, gives_by_bytes, read_sub}
 use Rattle.tree_frame.specs.Frame.{AreCurrent, AreReadable}
-use Rattle.tree_frame.proofs.Reading.{IsReadable, all_joined, all_parts, flat_map_same}
+use Rattle.tree_frame.proofs.Reading.{IsReadable, all_parts, flat_map_same}
 use Rattle.tree_frame.proofs.Sealed.{pointers_shown}
 use Rattle.tree_range.specs.Shape.{listed, node_pointers, reach_below, tree_reach}
 use Rattle.tree_seal.specs.Above.{DirtyIsAbove}

@@ -1,5 +1,5 @@
 -- What a volume keeps depends on the scene's superblocks, the blocks that were handed out, and the commit that runs, alone.
-use Rattle.std.proofs.Common.{◌≡◌, ◌≢◌, ◌*◌, ◌/◌, ℕ, List, [], ◌∷◌, Option, Some, None, sym, subst, ◌∙◌}
+use Rattle.std.proofs.Common.{◌≡◌, ◌≢◌, ◌/◌, ℕ, List, Option, Some, None, sym, subst, ◌∙◌}
 use Rattle.std.specs.Prelude.{Contains}
 use Rattle.blk_base.specs.Bytes.{Image}
 use Rattle.block_table.specs.declared.state.SlotState.TheVariants.{Dirty, Free, Live, Sealed}
@@ -7,12 +7,12 @@ use Rattle.block_table.specs.declared.tree.Tree.{Tree}
 use Rattle.block_table.specs.TreeIn.{block_at}
 use Rattle.commit_core.specs.Sealed.{IsOfNewest}
 use Rattle.commit_images.specs.Admissible.{last_bytes}
-use Rattle.commit_images.specs.Scene.{Commit, IsWritten, NotTried, Progress, Reaches, Scene}
+use Rattle.commit_images.specs.Scene.{Commit, Reaches, Scene}
 use Rattle.flat_model.specs.Volume.{RunVolume}
 use Rattle.tree_range.specs.Shape.{tree_reach}
 use Rattle.volume_seal.specs.Sealed.{states_reach}
 use Rattle.commit_blocks.specs.declared.kept.Kept.{Kept}
-use Rattle.commit_blocks.specs.Keeps.{AreApart, AreApartFromFirst, HoldsCommit, IsFound, IsOut, IsQuiet, IsTried, IsTurn, IsUntried, KeepsBlocks, numbered_at}
+use Rattle.commit_blocks.specs.Keeps.{AreApart, AreApartFromFirst, HoldsCommit, IsFound, IsTried, IsTurn, IsUntried, KeepsBlocks, numbered_at}
 
 -- the same of both, whatever happened and however the disk holds it
 pub record HaveSameBlocks (one other : Scene) : Type 0 where
@@ -69,6 +69,8 @@ module _ (kept : Kept) (image : Image) (run : RunVolume) (one other : Scene) (sa
     root_apart = h.root_apart;
     held = h.held;
     reaches = h.reaches;
+    root_reached = h.root_reached;
+    since = h.since;
     noted_once = h.noted_once;
     noted = h.noted;
     noted_apart = h.noted_apart;

@@ -1,10 +1,10 @@
 -- What a volume keeps behind a seal.
-use Rattle.std.proofs.Common.{◌≡◌, ◌≢◌, ◌∙◌, ◌≤◌, ◌+◌, ◌-◌, ◌*◌, ◌/◌, ◌%◌, ◌++◌, true, false, ℕ, List, [], ◌∷◌, Option, None, Some, length, length-append, map, refl, sym, ap, subst, inl, inr, arith}
+use Rattle.std.proofs.Common.{◌≡◌, ◌≢◌, ◌∙◌, ◌≤◌, ◌+◌, ◌*◌, ◌/◌, ◌%◌, ◌++◌, false, ℕ, List, [], ◌∷◌, Option, None, Some, length, map, refl, sym, ap, subst, inl, inr, arith}
 use Rattle.std.specs.Prelude.{◌⊎◌, All, Contains, slice_index_or}
 use Rattle.std.proofs.lemmas.List.Elements.{All-cons, All-contains, All-contains_itself, All-nil, Contains-append_cases, Contains-append_left, Contains-append_right}
 use Rattle.blk_base.specs.Bytes.{Image}
 use Rattle.blk_base.specs.Trees.{NoneTwice}
-use Rattle.blk_base.proofs.Members.{once_apart}
+use Rattle.blk_base.proofs.Members.{in_nothing, once_apart}
 use Rattle.block_table.specs.declared.state.SlotState.{SlotState}
 use Rattle.block_table.specs.declared.state.SlotState.TheVariants.{Dirty, Free, LetGo, Live, Sealed}
 use Rattle.block_table.specs.declared.tree.SubState.{SubState}
@@ -20,15 +20,14 @@ use Rattle.commit_images.specs.Admissible.{last_bytes}
 use Rattle.commit_images.specs.Scene.{Commit, NotTried, Reaches, Scene, scene_after_event}
 use Rattle.commit_images.specs.Scene as scenes
 use Rattle.flat_model.specs.Volume.{RunVolume, Volume, subvolume_ids}
-use Rattle.table_commit.specs.Commit.{AreReleasable, IsReleasable, addresses_of, let_go_addresses}
+use Rattle.table_commit.specs.Commit.{IsReleasable, addresses_of, let_go_addresses}
 use Rattle.table_commit.proofs.Addresses.{noted_is, noted_once}
 use Rattle.table_volume.specs.Gives.{sub_reach, tree_data}
 use Rattle.table_volume.specs.Running.{GiveVolume, id_of}
 use Rattle.tree_range.specs.Shape.{tree_reach}
-use Rattle.tree_seal.specs.Sealing.{as_handed}
 use Rattle.volume_seal.specs.Sealed.{IsReady, IsWhole, states_reach}
 use Rattle.commit_blocks.specs.declared.kept.Kept.{Kept}
-use Rattle.commit_blocks.specs.Keeps.{AreApart, AreApartFromFirst, BusyIsAbove, HoldsCommit, IsBusy, IsCurrent, IsFound, IsGone, IsHeld, IsOut, IsQuiet, IsTurn, IsUntried, KeepsBlocks, blocks_at, numbered_at, old_roots, reach_there, roots_room}
+use Rattle.commit_blocks.specs.Keeps.{AreApart, AreApartFromFirst, BusyIsAbove, HoldsCommit, IsBusy, IsCurrent, IsFound, IsGone, IsHeld, IsOut, IsQuiet, IsTurn, KeepsBlocks, blocks_at, numbered_at, old_roots, reach_there, roots_room}
 use Rattle.commit_blocks.specs.Steps.{IsKeptSealed, with_running}
 use Rattle.commit_blocks.proofs.Busy.{KeepsBusy, kept_busy_above}
 use Rattle.commit_blocks.proofs.Fates.{AreBothFree, Fate, IsNew, Stays, WasDirty, allowed, current_at, fate, fixed, free_left, lent, lent_given, lent_reach, new_reach, quiet, reach_of, root_taken, sealed_reach, size, states_current, states_taken, taken, whole_at}
@@ -178,6 +177,18 @@ module _ (old new : Kept) (image : Image) (run : RunVolume) (scene : Scene) (sup
       kept_busy_above old.table new.table state.tree state.tree old.fsid (keeps.current.ready k d within).written.0 (s.sealed.ready k d within).written.0
       (keeps_busy state there (s.sealed.whole k d within) is.once) was.tree_in is.tree_in (keeps.current.ready k d within).written.1 (s.sealed.ready k d within).written.1 (keeps.current.above k d within)
 
+  -- no block leaks: what a seal takes is of the root tree
+  accounted : (at : ℕ) → (block_at new.table at).state ≢ Free → (block_at new.table at).state ≢ LetGo → Contains (reach_of new) at ⊎ Contains (reach_there new.table new.sealed) at
+  accounted at not_free not_gone = elim (fate_of at) [
+    | IsNew here free now ↦ inr (subst (λ (tree : Option Tree). Contains (reach_there new.table tree) at) (sym s.is_out) here)
+    | WasDirty there dirty now ↦ inl (subst (λ (l : List ℕ). Contains l at) (sym reaches) there)
+    | Stays same not_root clean ↦ elim (keeps.current.used at (λ free. not_free (ap (λ (slot : BlockSlot). slot.state) same ∙ free)) (λ gone. not_gone (ap (λ (slot : BlockSlot). slot.state) same ∙ gone))) [
+      | inl there ↦ inl (subst (λ (l : List ℕ). Contains l at) (sym reaches) there)
+      | inr root ↦ absurd (in_nothing at (subst (λ (tree : Option Tree). Contains (reach_there old.table tree) at) none root))
+    ]
+    | AreBothFree before behind ↦ absurd (not_free behind)
+  ]
+
   pub current : IsCurrent new run
   current = record {
     least = omega (arith, sizes, keeps.current.least);
@@ -193,6 +204,7 @@ module _ (old new : Kept) (image : Image) (run : RunVolume) (scene : Scene) (sup
     above = subst (λ (l : List SubState). All (λ (state : SubState). BusyIsAbove state.tree.level new.table state.tree.root.0) l) (sym s.states)
         (running_all (λ (state : SubState). BusyIsAbove state.tree.level new.table state.tree.root.0) (λ (state : SubState). BusyIsAbove state.tree.level new.table state.tree.root.0) _ old.states.items (λ state h. h) above_states);
     allowed = allowed old new image run scene superblock out keeps none s;
+    used = accounted;
     fits = let long = ap length reaches in let same = ap roots_room many in omega (arith, long, sizes, same, keeps.current.fits);
     free =
         let was : 100 ≤ free_blocks old.table + length (old_roots old) + 0 = subst (λ (tree : Option Tree). 100 ≤ free_blocks old.table + length (old_roots old) + length (reach_there old.table tree)) none keeps.current.free in
@@ -345,6 +357,14 @@ module _ (old new : Kept) (image : Image) (run : RunVolume) (scene : Scene) (sup
   noted_are : addresses_of new.let_go.items ≡ addresses_of (let_go_addresses old.table)
   noted_are = ap (λ (l : List Addr). addresses_of l) s.noted
 
+  was_gone : (at : ℕ) → (block_at new.table at).state ≡ LetGo → (block_at old.table at).state ≡ LetGo
+  was_gone at gone = elim (fate_of at) [
+    | IsNew here free now ↦ absurd (let w : Sealed ≡ LetGo = sym now ∙ gone in cc)
+    | WasDirty there dirty now ↦ absurd (let w : Sealed ≡ LetGo = sym now ∙ gone in cc)
+    | Stays same not_root clean ↦ ap (λ (slot : BlockSlot). slot.state) (sym same) ∙ gone
+    | AreBothFree before behind ↦ absurd (let w : Free ≡ LetGo = sym behind ∙ gone in cc)
+  ]
+
   noted_gone : (at : ℕ) → Contains (addresses_of new.let_go.items) at → (block_at old.table at).state ≡ LetGo
   noted_gone at there = from_addresses old.table at (subst (λ (l : List ℕ). Contains l at) noted_are there)
 
@@ -399,6 +419,8 @@ module _ (old new : Kept) (image : Image) (run : RunVolume) (scene : Scene) (sup
       root_apart = λ at here there. once_apart (tree_reach new.table s.root) (reach_of new) reached_once at here there;
       held = commit_held volume;
       reaches = λ at there clean. in_numbered new.table (tree_reach new.table s.root ++ reach_of new) at (Contains-append_right (tree_reach new.table s.root) (reach_of new) at there);
+      root_reached = λ at here. in_numbered new.table (tree_reach new.table s.root ++ reach_of new) at (Contains-append_left (tree_reach new.table s.root) (reach_of new) at here);
+      since = λ at gone not_noted. absurd (not_noted (subst (λ (l : List ℕ). Contains l at) (sym noted_are) (in_addresses old.table at (was_gone at gone))));
       noted_once = subst NoneTwice (sym noted_are) (noted_once old.table);
       noted = each (λ (at : ℕ). IsReleasable (block_at new.table at)) (addresses_of new.let_go.items) (λ at there. record { let_go = gone_now at there; back = ap (λ (slot : BlockSlot). slot.out) (gone_fixed at (noted_gone at there)) ∙ was_quiet.back at (noted_gone at there) });
       noted_apart = noted_apart volume;

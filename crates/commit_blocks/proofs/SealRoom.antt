@@ -1,5 +1,5 @@
 -- There is room for a seal.
-use Rattle.std.proofs.Common.{◌≡◌, ◌≤◌, ◌+◌, ◌++◌, ℕ, Option, None, length, length-append, subst, arith}
+use Rattle.std.proofs.Common.{◌≡◌, ◌≤◌, ◌+◌, Option, None, length, length-append, subst, arith}
 use Rattle.blk_base.specs.Bytes.{Image}
 use Rattle.block_table.specs.declared.tree.Tree.{Tree}
 use Rattle.block_table.specs.Table.{free_blocks}

@@ -1,7 +1,7 @@
 -- What a seal hands out, and when it may be written.
-use Rattle.std.proofs.Common.{◌≡◌, ◌≢◌, ◌∙◌, ◌≤◌, ◌<◌, ◌+◌, ◌-◌, ◌*◌, ◌/◌, ◌%◌, ◌++◌, true, Bool, if◌then◌else◌, ℕ, zero, suc, List, [], ◌∷◌, Option, None, Some, length, length-append, map, slice_get, slice_index_or, refl, sym, ap, subst, inl, inr, arith}
+use Rattle.std.proofs.Common.{◌≡◌, ◌≢◌, ◌∙◌, ◌≤◌, ◌<◌, ◌+◌, ◌/◌, ◌%◌, ◌++◌, Bool, if◌then◌else◌, ℕ, zero, suc, List, [], ◌∷◌, None, Some, length, length-append, map, slice_get, slice_index_or, refl, sym, ap, subst, inl, inr, arith}
 use Rattle.std.specs.Prelude.{◌⊎◌, All, Contains}
-use Rattle.std.proofs.lemmas.List.Elements.{All-contains, Contains-append_cases, Contains-append_left, Contains-append_right}
+use Rattle.std.proofs.lemmas.List.Elements.{Contains-append_cases, Contains-append_left, Contains-append_right}
 use Rattle.std.proofs.lemmas.Option.{get_or_from_slice_get}
 use Rattle.blk_base.specs.Bytes.{Image, zeros}
 use Rattle.blk_base.specs.Superblock.{IsSuper}
@@ -9,28 +9,26 @@ use Rattle.blk_base.specs.Trees.{AtBlock, NoneTwice}
 use Rattle.blk_base.proofs.Members.{in_cons, in_nothing}
 use Rattle.batch_write.specs.Batch.{IsPlace, numbers_of}
 use Rattle.block_table.specs.declared.state.SlotState.TheVariants.{Dirty, Free, LetGo, Live, Sealed}
-use Rattle.block_table.specs.declared.tree.SubState.{SubState}
 use Rattle.block_table.specs.Blocks.{BlockList}
 use Rattle.block_table.specs.Slot.{BlockSlot}
 use Rattle.block_table.specs.Table.{Table}
-use Rattle.block_table.specs.TreeIn.{IsTaken, block_at}
+use Rattle.block_table.specs.TreeIn.{block_at}
 use Rattle.commit_core.specs.Coming.{numbered}
-use Rattle.commit_core.specs.Sealed.{HavePlaces, IsOfNewest, IsReadyToWrite, SaysCommit}
+use Rattle.commit_core.specs.Sealed.{HavePlaces, IsOfNewest, IsReadyToWrite, SaysCommit, StandsWhole}
 use Rattle.commit_history.specs.declared.event.Event.{Event}
 use Rattle.commit_images.specs.Admissible.{HandsOut, last_bytes}
-use Rattle.commit_images.specs.Scene.{Commit, HasCommit, Reaches, Scene, StandsFor, scene_after_event}
+use Rattle.commit_images.specs.Scene.{Commit, HasCommit, Reaches, Scene, scene_after_event}
 use Rattle.commit_images.specs.Scene as scenes
-use Rattle.disk_model.specs.Disk.{IsImage}
 use Rattle.flat_model.specs.Volume.{RunVolume, Volume, volume_of}
 use Rattle.tree_range.specs.Shape.{tree_reach}
 use Rattle.tree_seal.specs.OnImage.{HasBlocks}
 use Rattle.tree_seal.specs.Sealing.{as_handed}
-use Rattle.volume_image.specs.Stands.{Stands, StandsBy, free_of, mount_need, super_block}
+use Rattle.volume_image.specs.Stands.{super_block}
 use Rattle.volume_seal.specs.Sealed.{states_reach}
 use Rattle.volume_seal.specs.Superblock.{super_at}
 use Rattle.volume_seal.proofs.Standing.{stands_now}
 use Rattle.commit_blocks.specs.declared.kept.Kept.{Kept}
-use Rattle.commit_blocks.specs.Keeps.{IsHeld, KeepsBlocks, numbered_at, roots_room}
+use Rattle.commit_blocks.specs.Keeps.{KeepsBlocks, numbered_at, roots_room}
 use Rattle.commit_blocks.specs.Steps.{IsKeptSealed, IsListOut}
 use Rattle.commit_blocks.proofs.Fates.{AreBothFree, IsNew, Stays, WasDirty, fate, new_reach, reach_of, sealed_reach, size, taken}
 use Rattle.commit_blocks.proofs.Handed.{in_numbered, numbered_in, same_place}
@@ -76,8 +74,8 @@ module _ (old new : Kept) (image : Image) (run : RunVolume) (scene : Scene) (sup
       let slots = size old new image run scene superblock out keeps none s in
       omega (arith, both, same, slots, root_fits (length old.states.items) (length (tree_reach new.table s.root)) s.sealed.made.few s.sealed.made.small, keeps.current.fits)
 
-  -- an image that has the commit stands for the volume
-  pub stands : StandsFor Stands (length image) (commit_of new s.root superblock (volume_of run))
+  -- an image that has the commit stands for the volume, by what it reaches
+  pub stands : StandsWhole (length image) (commit_of new s.root superblock (volume_of run))
   stands other is_image same_size has =
       let inside : 16 < length other = omega (arith, same_size, on_image old new image run scene superblock out keeps none s, size old new image run scene superblock out keeps none s, keeps.current.least) in
       let read : super_block other ≡ superblock = super_same other inside ∙ has.superblock in
@@ -89,6 +87,12 @@ module _ (old new : Kept) (image : Image) (run : RunVolume) (scene : Scene) (sup
       let fits : length (tree_reach new.table s.root ++ states_reach new.table old.states.items) + 198 ≤ length new.table.slots = subst (λ (l : List ℕ). length (tree_reach new.table s.root ++ l) + 198 ≤ length new.table.slots) (sym same) long in
       record {
         reach = tree_reach new.table s.root ++ states_reach new.table old.states.items;
+        within = λ at there. (
+          numbered_at new.table at,
+          in_numbered new.table (tree_reach new.table s.root ++ reach_of new) at
+              (subst (λ (l : List ℕ). Contains (tree_reach new.table s.root ++ l) at) same there),
+          refl,
+        );
         by_reach = stands_now _ new.table old.states.items run s.root old.fsid old.generation s.used out.pairs other (given_states old new image run scene superblock out keeps none s) s.sealed keeps.current.some keeps.current.few keeps.current.ids is_super has_states (omega (arith, fits));
       }
     where

@@ -1,14 +1,11 @@
 -- The table once a commit's list is back and its Sealed blocks are Live.
-use Rattle.std.proofs.Common.{◌≡◌, ◌≢◌, ◌∙◌, ◌≤◌, ◌+◌, ◌*◌, ◌/◌, ◌%◌, ◌++◌, true, false, ℕ, List, [], ◌∷◌, Option, None, Some, length, length-append, map, refl, sym, ap, subst, inl, inr, arith}
-use Rattle.std.specs.Prelude.{◌⊎◌, All, Contains, vec_capacity}
+use Rattle.std.proofs.Common.{◌≡◌, ◌≢◌, ◌∙◌, ◌≤◌, ◌%◌, true, false, ℕ, List, [], length, refl, sym, ap, subst, inl, inr, arith}
+use Rattle.std.specs.Prelude.{◌⊎◌, Contains}
 use Rattle.std.proofs.lemmas.List.Elements.{All-contains}
 use Rattle.blk_base.specs.Address.{IsAllowed}
 use Rattle.blk_base.specs.Bytes.{Image}
-use Rattle.blk_base.specs.Trees.{AtBlock, NoneTwice}
-use Rattle.blk_base.proofs.Members.{is_in}
 use Rattle.block_table.specs.declared.state.SlotState.{SlotState}
 use Rattle.block_table.specs.declared.state.SlotState.TheVariants.{Dirty, Free, LetGo, Live, Sealed}
-use Rattle.block_table.specs.declared.tree.SubState.{SubState}
 use Rattle.block_table.specs.declared.tree.Tree.{Tree}
 use Rattle.block_table.specs.Blocks.{BlockList}
 use Rattle.block_table.specs.Slot.{BlockSlot}
@@ -16,12 +13,12 @@ use Rattle.block_table.specs.Table.{Table, free_blocks}
 use Rattle.block_table.specs.TreeIn.{IsTaken, block_at}
 use Rattle.commit_images.specs.Scene.{Scene}
 use Rattle.flat_model.specs.Volume.{RunVolume}
-use Rattle.table_commit.specs.Commit.{AreReleasable, IsReleasable, NoneOut, addresses_of, settled, with_each}
+use Rattle.table_commit.specs.Commit.{AreReleasable, IsReleasable, NoneOut, settled, with_each}
 use Rattle.table_commit.proofs.Settled.{each_size, settled_at, settled_bytes, settled_other, settled_sealed}
 use Rattle.tree_frame.proofs.Reading.{IsReadTree, reach_taken, read_tree}
 use Rattle.tree_range.specs.Shape.{IsTree, tree_reach}
 use Rattle.commit_blocks.specs.declared.kept.Kept.{Kept}
-use Rattle.commit_blocks.specs.Keeps.{IsOut, IsTurn, KeepsBlocks}
+use Rattle.commit_blocks.specs.Keeps.{KeepsBlocks}
 use Rattle.commit_blocks.specs.Steps.{IsHanded, IsListOut}
 use Rattle.commit_blocks.proofs.Back.{back_block, back_bytes, back_size, back_state, backed, is_back, none_out}
 use Rattle.commit_blocks.proofs.Counting.{free_falls}
@@ -66,6 +63,9 @@ settled_gone old new s gone = elim (sealed_or_not old.state) [
   | inl is ↦ absurd (let w : Live ≡ LetGo = sym (s.sealed is) ∙ gone in cc)
   | inr isnt ↦ sym (s.other isnt) ∙ gone
 ]
+
+pub settled_let_go : (old new : BlockSlot) → IsSettled old new → old.state ≡ LetGo → new.state ≡ LetGo
+settled_let_go old new s gone = s.other (λ is. let w : LetGo ≡ Sealed = sym gone ∙ is in cc) ∙ gone
 
 pub settled_ends : (old new : BlockSlot) → IsSettled old new → Ends old new
 settled_ends old new s = record {

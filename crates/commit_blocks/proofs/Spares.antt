@@ -1,26 +1,24 @@
 -- What a volume keeps depends on no count of buffers.
-use Rattle.std.proofs.Common.{◌≡◌, ◌≢◌, ◌∙◌, ◌≤◌, ◌+◌, ◌*◌, ◌/◌, ◌++◌, max, ℕ, List, length, Option, Some, None, Result, Ok, Err, refl, sym, ap, subst, arith}
-use Rattle.std.specs.Prelude.{All, Contains, OnOk, OnErr}
+use Rattle.std.proofs.Common.{◌≡◌, ◌≢◌, ◌≤◌, ◌+◌, max, ℕ, List, length, Option, Some, None, Result, Ok, Err, refl, sym, subst, arith, inl, inr}
+use Rattle.std.specs.Prelude.{◌⊎◌, Contains, OnOk, OnErr}
 use Rattle.std.proofs.Math.Nat.{le-max_left}
 use Rattle.blk_base.specs.Bytes.{Image}
 use Rattle.blk_base.specs.Trees.{NoneTwice}
-use Rattle.block_table.specs.declared.state.SlotState.TheVariants.{Dirty, Live, Sealed}
+use Rattle.block_table.specs.declared.state.SlotState.TheVariants.{Free, LetGo}
 use Rattle.block_table.specs.declared.tree.SubState.{SubState}
 use Rattle.block_table.specs.declared.tree.Tree.{Tree}
 use Rattle.block_table.specs.Blocks.{BlockList}
 use Rattle.block_table.specs.Table.{Table, free_blocks, with_spare}
 use Rattle.block_table.specs.TreeIn.{IsTaken, block_at}
-use Rattle.commit_images.specs.Scene.{Commit, NotTried, Scene}
-use Rattle.commit_core.specs.Sealed.{IsOfNewest}
+use Rattle.commit_images.specs.Scene.{Commit, Scene}
 use Rattle.flat_model.specs.Volume.{RunVolume}
-use Rattle.table_commit.specs.Commit.{addresses_of}
 use Rattle.table_volume.specs.Running.{GiveVolume}
 use Rattle.tree_range.specs.Shape.{IsTree, tree_reach}
 use Rattle.tree_range.proofs.Local.{tree_alike}
-use Rattle.volume_seal.specs.Sealed.{IsReady, states_reach}
+use Rattle.volume_seal.specs.Sealed.{states_reach}
 use Rattle.commit_blocks.specs.declared.kept.Kept.{Kept}
-use Rattle.commit_blocks.specs.Keeps.{roots_room, AreApart, AreApartFromFirst, BusyIsAbove, HoldsCommit, IsCurrent, IsFound, IsGone, IsOut, IsQuiet, IsTried, IsTurn, IsUntried, KeepsBlocks, numbered_at, old_roots, reach_there}
-use Rattle.commit_blocks.specs.Steps.{HasMoreSpare, IsListOut}
+use Rattle.commit_blocks.specs.Keeps.{roots_room, AreApart, AreApartFromFirst, HoldsCommit, IsCurrent, IsFound, IsOut, IsTurn, KeepsBlocks, old_roots, reach_there}
+use Rattle.commit_blocks.specs.Steps.{IsListOut}
 use Rattle.commit_blocks.proofs.Fates.{states_current, states_taken}
 use Rattle.commit_blocks.proofs.Gone.{both_reach, gone_reach, gone_stays, there_reach}
 use Rattle.commit_blocks.proofs.Read.{above_now, each, given_now, reach_now, ready_now}
@@ -73,6 +71,12 @@ module _ (old : Kept) (count : ℕ) (image : Image) (run : RunVolume) (scene : S
       (subst (λ (l : List ℕ). 80 ≤ count + length (old_roots old) + length l) (sym sealed_reach)
       (more_spare (length (old_roots old)) (length (reach_there old.table old.sealed)) h.current.spare))
 
+  accounted : (at : ℕ) → (block_at table at).state ≢ Free → (block_at table at).state ≢ LetGo → Contains (states_reach table states) at ⊎ Contains (reach_there table old.sealed) at
+  accounted at taken kept = elim (h.current.used at taken kept) [
+    | inl there ↦ inl (subst (λ (l : List ℕ). Contains l at) (sym reach) there)
+    | inr root ↦ inr (subst (λ (l : List ℕ). Contains l at) (sym sealed_reach) root)
+  ]
+
   current : IsCurrent (with_buffers old count) run
   current = record {
     least = h.current.least;
@@ -85,6 +89,7 @@ module _ (old : Kept) (count : ℕ) (image : Image) (run : RunVolume) (scene : S
     ready = ready_now old.table table states run given_was readable (states_current old.table states run given_was) old.fsid (λ at there. record { bytes = refl; down = λ it. it; up = λ it. it }) h.current.ready;
     above = above_now old.table table states run given_was readable (states_current old.table states run given_was) (λ at there. record { bytes = refl; down = λ it. it; up = λ it. it }) h.current.above;
     allowed = h.current.allowed;
+    used = accounted;
     fits = subst (λ (l : List ℕ). length l + roots_room (length states) + 198 ≤ length old.table.slots) (sym reach) h.current.fits;
     free = free;
     last_few = subst (λ (l : List ℕ). length l ≤ 33) (sym last_reach) h.current.last_few;
@@ -132,6 +137,8 @@ module _ (old : Kept) (count : ℕ) (image : Image) (run : RunVolume) (scene : S
       root_apart = λ at there here. out.root_apart at (in_root at there) (in_reach at here);
       held = holds out.commit out.held;
       reaches = λ at there clean. out.reaches at (in_reach at there) clean;
+      root_reached = λ at there. out.root_reached at (in_root at there);
+      since = out.since;
       noted_once = out.noted_once;
       noted = out.noted;
       noted_apart = out.noted_apart;

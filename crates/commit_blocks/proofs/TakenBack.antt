@@ -1,12 +1,10 @@
 -- What a volume keeps once its full commit has failed before the write of its superblock.
-use Rattle.std.proofs.Common.{◌≡◌, ◌≢◌, ◌∙◌, ◌≤◌, ◌+◌, ◌*◌, ◌/◌, ◌%◌, ◌++◌, true, false, ℕ, zero, suc, List, [], ◌∷◌, Option, None, Some, length, length-append, map, refl, sym, ap, subst, inl, inr, arith}
-use Rattle.std.specs.Prelude.{◌⊎◌, All, Contains, vec_capacity}
-use Rattle.std.proofs.lemmas.List.Elements.{Contains-append_left, Contains-append_right, All-contains}
+use Rattle.std.proofs.Common.{◌≡◌, ◌≢◌, ◌∙◌, ◌≤◌, ◌+◌, ◌*◌, ◌/◌, ◌++◌, false, ℕ, List, [], Option, None, Some, length, refl, sym, ap, subst, inl, inr, arith}
+use Rattle.std.specs.Prelude.{All, Contains, vec_capacity}
 use Rattle.blk_base.specs.Address.{IsAllowed}
 use Rattle.blk_base.specs.Bytes.{Image}
-use Rattle.blk_base.specs.Trees.{AtBlock, NoneTwice}
-use Rattle.blk_base.proofs.Members.{is_in}
-use Rattle.block_table.specs.declared.state.SlotState.{SlotState}
+use Rattle.blk_base.specs.Trees.{NoneTwice}
+use Rattle.blk_base.proofs.Members.{in_nothing, is_in}
 use Rattle.block_table.specs.declared.state.SlotState.TheVariants.{Dirty, Free, LetGo, Live, Sealed}
 use Rattle.block_table.specs.declared.tree.SubState.{SubState}
 use Rattle.block_table.specs.declared.tree.Tree.{Tree}
@@ -15,25 +13,24 @@ use Rattle.block_table.specs.Slot.{BlockSlot}
 use Rattle.block_table.specs.Table.{Table, free_blocks}
 use Rattle.block_table.specs.TreeIn.{IsTaken, block_at}
 use Rattle.commit_core.specs.Sealed.{IsOfNewest}
-use Rattle.commit_images.specs.Scene.{Commit, NotTried, Reaches, Scene}
+use Rattle.commit_images.specs.Scene.{Commit, NotTried, Scene}
 use Rattle.flat_model.specs.Volume.{RunVolume}
-use Rattle.table_commit.specs.Commit.{AreLetGo, NoneOut, dirty_in, unsealed, with_each}
+use Rattle.table_commit.specs.Commit.{AreLetGo, dirty_in, unsealed, with_each}
 use Rattle.table_commit.proofs.Gone.{all_dirty}
 use Rattle.table_commit.proofs.Settled.{each_size, unsealed_at, unsealed_bytes, unsealed_other, unsealed_sealed}
 use Rattle.tree_frame.specs.Frame.{AreCurrent}
-use Rattle.tree_frame.proofs.Reading.{IsReadTree, reach_taken, read_tree}
+use Rattle.tree_frame.proofs.Reading.{IsReadTree, read_tree}
 use Rattle.tree_range.specs.Shape.{IsTree, tree_reach}
 use Rattle.volume_seal.specs.Sealed.{IsReady}
 use Rattle.commit_blocks.specs.declared.kept.Kept.{Kept}
-use Rattle.commit_blocks.specs.Keeps.{AreApartFromFirst, HoldsCommit, IsBusy, IsGone, IsHeld, IsOut, IsUntried, KeepsBlocks, numbered_at, old_roots, reach_there}
-use Rattle.commit_blocks.specs.Steps.{IsEnded, IsHanded, IsListOut, KeepsRest}
-use Rattle.commit_blocks.proofs.Back.{back_block, back_bytes, back_size, back_state, backed, is_back, none_out}
+use Rattle.commit_blocks.specs.Keeps.{AreApartFromFirst, IsBusy, IsGone, IsHeld, IsOut, IsUntried, KeepsBlocks, old_roots, reach_there}
+use Rattle.commit_blocks.specs.Steps.{AreLetGoBehind, IsEnded, IsHanded, IsListOut, KeepsRest}
+use Rattle.commit_blocks.proofs.Back.{back_block, back_bytes, back_size, back_state, backed, is_back}
 use Rattle.commit_blocks.proofs.Counting.{free_falls}
 use Rattle.commit_blocks.proofs.Ends.{Ends, end_all, end_current, end_found, end_quiet, end_readable}
 use Rattle.commit_blocks.proofs.Fates.{reach_of, states_current, states_taken}
-use Rattle.commit_blocks.proofs.Finishing.{runs_out}
-use Rattle.commit_blocks.proofs.Gone.{all_gone}
-use Rattle.commit_blocks.proofs.Read.{GoesOn, each, ready_again}
+use Rattle.commit_blocks.proofs.Finishing.{runs_out, was_current}
+use Rattle.commit_blocks.proofs.Read.{each, ready_again}
 use Rattle.commit_blocks.proofs.Settling.{handed_whole, sealed_or_not}
 use Rattle.commit_blocks.proofs.TriedEnd.{gone_read}
 
@@ -149,6 +146,24 @@ module _ (old : Kept) (image : Image) (run : RunVolume) (scene : Scene) (keeps :
       | inr not_root ↦ unsealed_ends (block_at old.table at) (block_at new.table at) (other_now at not_root)
     ]
 
+    accounted : (at : ℕ) → (block_at new.table at).state ≢ Free → (block_at new.table at).state ≢ LetGo → Contains (reach_of old) at
+    accounted at taken kept = elim (is_in (tree_reach old.table root) at) [
+      | inl here ↦ absurd (taken (root_free at here))
+      | inr not_root ↦
+          let s = other_now at not_root in
+          was_current old image run scene keeps list out root is at not_root ((ends at).came taken) (λ g. kept (s.other (λ e. let w : LetGo ≡ Sealed = sym g ∙ e in cc) ∙ g))
+    ]
+
+    pub back_let_go : AreLetGoBehind old.table new.table [] []
+    back_let_go = record {
+      only = λ at gone. elim (is_in (tree_reach old.table root) at) [
+        | inl here ↦ absurd (let w : Free ≡ LetGo = sym (root_free at here) ∙ gone in cc)
+        | inr not_root ↦ inr (sym (unsealed_same (block_at old.table at) (block_at new.table at) (other_now at not_root) (λ dirty. let w : LetGo ≡ Dirty = sym gone ∙ dirty in cc)) ∙ gone, in_nothing at)
+      ];
+      made_so = λ at none. absurd (in_nothing at none);
+      stays = λ at gone _. (other_now at (λ here. let w : Sealed ≡ LetGo = sym (o.root_sealed at here) ∙ gone in cc)).other (λ e. let w : LetGo ≡ Sealed = sym gone ∙ e in cc) ∙ gone;
+    }
+
     reach_now : (at : ℕ) → Contains (reach_of old) at → IsUnsealed (block_at old.table at) (block_at new.table at)
     reach_now at there = other_now at (λ here. o.root_apart at here there)
 
@@ -232,7 +247,7 @@ module _ (old : Kept) (image : Image) (run : RunVolume) (scene : Scene) (keeps :
       pub taken_back_keeps : KeepsBlocks new image run next
       taken_back_keeps =
           end_all old new image run scene next keeps ended rest ends stays
-          (end_current old new image run scene next keeps ended rest ends stays ready free_now spare_now (subst (λ (l : List ℕ). length l ≤ 33) (sym last_reach) keeps.current.last_few) (subst (λ (l : List ℕ). length l ≤ 33) (sym failed_reach) keeps.current.failed_few))
+          (end_current old new image run scene next keeps ended rest ends stays accounted ready free_now spare_now (subst (λ (l : List ℕ). length l ≤ 33) (sym last_reach) keeps.current.last_few) (subst (λ (l : List ℕ). length l ≤ 33) (sym failed_reach) keeps.current.failed_few))
           (end_found old new image run scene next keeps ended rest ends stays held_at
           (λ at there live.
           let s = reach_now at there in

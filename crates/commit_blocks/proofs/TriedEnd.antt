@@ -1,34 +1,31 @@
 -- What a volume keeps once the write of its full commit's superblock has failed.
-use Rattle.std.proofs.Common.{◌≡◌, ◌≢◌, ◌∙◌, ◌≤◌, ◌+◌, ◌*◌, ◌/◌, ◌%◌, ◌++◌, true, false, ℕ, zero, suc, List, [], ◌∷◌, Option, None, Some, length, length-append, map, refl, sym, ap, subst, inl, inr, arith}
-use Rattle.std.specs.Prelude.{◌⊎◌, All, Contains, vec_capacity}
-use Rattle.std.proofs.lemmas.List.{append-nil}
-use Rattle.std.proofs.lemmas.List.Elements.{All-contains, Contains-append_left, Contains-append_right}
+use Rattle.std.proofs.Common.{◌≡◌, ◌≢◌, ◌∙◌, ◌≤◌, ◌+◌, ◌*◌, ◌/◌, ◌++◌, false, ℕ, List, [], Option, Some, length, length-append, sym, ap, subst, inl, inr, arith}
+use Rattle.std.specs.Prelude.{All, Contains, vec_capacity}
 use Rattle.blk_base.specs.Address.{IsAllowed}
 use Rattle.blk_base.specs.Bytes.{Image}
-use Rattle.blk_base.specs.Trees.{AtBlock, NoneTwice}
-use Rattle.blk_base.proofs.Members.{is_in, once_append, once_apart}
-use Rattle.block_table.specs.declared.state.SlotState.{SlotState}
+use Rattle.blk_base.specs.Trees.{NoneTwice}
+use Rattle.blk_base.proofs.Members.{is_in, once_append}
 use Rattle.block_table.specs.declared.state.SlotState.TheVariants.{Dirty, Free, LetGo, Live, Sealed}
 use Rattle.block_table.specs.declared.tree.SubState.{SubState}
 use Rattle.block_table.specs.declared.tree.Tree.{Tree}
 use Rattle.block_table.specs.Blocks.{BlockList}
 use Rattle.block_table.specs.Slot.{BlockSlot}
-use Rattle.block_table.specs.Table.{Table, free_blocks}
+use Rattle.block_table.specs.Table.{free_blocks}
 use Rattle.block_table.specs.TreeIn.{IsTaken, block_at}
 use Rattle.commit_core.specs.Sealed.{IsOfNewest}
-use Rattle.commit_images.specs.Scene.{Commit, HasFailed, NotTried, Reaches, Scene}
+use Rattle.commit_images.specs.Scene.{Commit, HasFailed, NotTried, Scene}
 use Rattle.flat_model.specs.Volume.{RunVolume}
 use Rattle.tree_frame.proofs.Reading.{IsReadTree, read_tree}
 use Rattle.tree_range.specs.Shape.{IsTree, tree_reach}
 use Rattle.volume_seal.specs.Sealed.{IsReady}
 use Rattle.commit_blocks.specs.declared.kept.Kept.{Kept}
-use Rattle.commit_blocks.specs.Keeps.{AreApart, AreApartFromFirst, HoldsCommit, IsGone, IsHeld, IsOut, IsTried, IsTurn, KeepsBlocks, numbered_at, old_roots, reach_there}
-use Rattle.commit_blocks.specs.Steps.{IsEnded, IsHanded, IsListOut, KeepsRest}
+use Rattle.commit_blocks.specs.Keeps.{AreApart, AreApartFromFirst, IsGone, IsHeld, IsOut, IsTried, KeepsBlocks, numbered_at, old_roots, reach_there}
+use Rattle.commit_blocks.specs.Steps.{AreLetGoBehind, IsEnded, IsListOut, KeepsRest}
 use Rattle.commit_blocks.proofs.Ends.{Ends, end_all, end_current, end_found, end_quiet, end_readable}
 use Rattle.commit_blocks.proofs.Fates.{reach_of, states_current, states_taken}
-use Rattle.commit_blocks.proofs.Finishing.{runs_out}
-use Rattle.commit_blocks.proofs.Read.{GoesOn, each, ready_now}
-use Rattle.commit_blocks.proofs.Settling.{IsSettled, settled_dirty, settled_ends, settled_gone, settled_taken, settled_was_dirty}
+use Rattle.commit_blocks.proofs.Finishing.{runs_out, was_current}
+use Rattle.commit_blocks.proofs.Read.{each, ready_now}
+use Rattle.commit_blocks.proofs.Settling.{IsSettled, settled_dirty, settled_ends, settled_gone, settled_let_go, settled_taken, settled_was_dirty}
 
 -- a Sealed block of the root tree was let go
 pub record IsRootEnd (old new : BlockSlot) : Type 0 where
@@ -78,6 +75,17 @@ module _ (old : Kept) (image : Image) (run : RunVolume) (scene : Scene) (keeps :
     ]
   ]
 
+  accounted : (at : ℕ) → (block_at new.table at).state ≢ Free → (block_at new.table at).state ≢ LetGo → Contains (reach_of old) at
+  accounted at taken kept = elim (is_in gone at) [
+    | inl there ↦ absurd (taken (free_gone at there))
+    | inr not_gone ↦ elim (is_in (tree_reach old.table root) at) [
+      | inl here ↦ absurd (kept (root_now at here).state)
+      | inr not_root ↦
+          let s = other_now at not_gone not_root in
+          was_current old image run scene keeps list out root is at not_root ((ends at).came taken) (λ g. kept (settled_let_go (block_at old.table at) (block_at new.table at) s g))
+    ]
+  ]
+
   reach_settled : (at : ℕ) → Contains (reach_of old) at → IsSettled (block_at old.table at) (block_at new.table at)
   reach_settled at there = other_now at (λ g. states_current old.table old.states.items run keeps.current.given at there (gone_was at g)) (λ here. o.root_apart at here there)
 
@@ -99,6 +107,19 @@ module _ (old : Kept) (image : Image) (run : RunVolume) (scene : Scene) (keeps :
 
   root_gone : IsGone new.table root
   root_gone = record { tree_in = root_read.stands o.tree_in; ready = λ at here. (root_now at (subst (λ (l : List ℕ). Contains l at) root_read.reach here)).state }
+
+  pub tried_let_go : AreLetGoBehind old.table new.table (tree_reach new.table root) gone
+  tried_let_go = record {
+    only = λ at is_gone. elim (is_in gone at) [
+      | inl there ↦ absurd (let w : Free ≡ LetGo = sym (free_gone at there) ∙ is_gone in cc)
+      | inr not_gone ↦ elim (is_in (tree_reach old.table root) at) [
+        | inl here ↦ inl (subst (λ (l : List ℕ). Contains l at) (sym root_read.reach) here)
+        | inr not_root ↦ inr (settled_gone (block_at old.table at) (block_at new.table at) (other_now at not_gone not_root) is_gone, not_gone)
+      ]
+    ];
+    made_so = λ at here. (root_now at (subst (λ (l : List ℕ). Contains l at) root_read.reach here)).state;
+    stays = λ at was not_gone. settled_let_go (block_at old.table at) (block_at new.table at) (other_now at not_gone (λ here. let w : Sealed ≡ LetGo = sym (o.root_sealed at here) ∙ was in cc)) was;
+  }
 
   -- an older root tree that wasn't released
   old_now : (tree : Tree) → IsGone old.table tree → ((at : ℕ) → Contains (tree_reach old.table tree) at → Contains gone at → ⊥) → (at : ℕ) → Contains (tree_reach old.table tree) at → ((block_at old.table at).state ≢ Free) × ((block_at new.table at).state ≡ LetGo) × ((block_at new.table at).bytes ≡ (block_at old.table at).bytes)
@@ -166,7 +187,7 @@ module _ (old : Kept) (image : Image) (run : RunVolume) (scene : Scene) (keeps :
     pub tried_keeps : KeepsBlocks new image run next
     tried_keeps =
         end_all old new image run scene next keeps ended rest ends stays
-        (end_current old new image run scene next keeps ended rest ends stays ready free_now spare_now (let same = ap length last_read.reach in omega (arith, same, last_few)) failed_few)
+        (end_current old new image run scene next keeps ended rest ends stays accounted ready free_now spare_now (let same = ap length last_read.reach in omega (arith, same, last_few)) failed_few)
         (end_found old new image run scene next keeps ended rest ends stays
         (λ commit there block within. held_at block (keeps.found.held commit there block within) (λ g. gone_apart commit there (block.0 * 4096) g (block, within, (let place : block.0 ≡ block.0 * 4096 / 4096 = omega arith in place))))
         (λ at there live. subst (λ (l : List Commit). IsOfNewest l (numbered_at new.table at)) (sym is_tried.found) (newest_at at there live))

@@ -1,8 +1,8 @@
 -- The table once the write of a superblock failed, step by step.
-use Rattle.std.proofs.Common.{◌≡◌, ◌≢◌, ◌∙◌, ◌≤◌, ◌+◌, ◌*◌, ◌/◌, ◌%◌, ◌++◌, true, false, ℕ, List, [], ◌∷◌, Option, None, Some, length, length-append, map, refl, sym, ap, subst, inl, inr, arith}
-use Rattle.std.specs.Prelude.{◌⊎◌, All, Contains, vec_capacity}
+use Rattle.std.proofs.Common.{◌≡◌, ◌≢◌, ◌∙◌, ◌≤◌, ◌+◌, ◌++◌, ℕ, List, [], Option, None, Some, length, length-append, sym, ap, subst, inl, inr, arith}
+use Rattle.std.specs.Prelude.{Contains, vec_capacity}
 use Rattle.std.proofs.lemmas.List.{append-nil}
-use Rattle.std.proofs.lemmas.List.Elements.{All-contains, Contains-append_left, Contains-append_right}
+use Rattle.std.proofs.lemmas.List.Elements.{Contains-append_left, Contains-append_right}
 use Rattle.blk_base.specs.Address.{IsAllowed}
 use Rattle.blk_base.specs.Bytes.{Image}
 use Rattle.blk_base.specs.Trees.{NoneTwice}
@@ -13,7 +13,7 @@ use Rattle.block_table.specs.Blocks.{BlockList}
 use Rattle.block_table.specs.Slot.{BlockSlot}
 use Rattle.block_table.specs.Table.{Table, free_blocks}
 use Rattle.block_table.specs.TreeIn.{IsTaken, block_at}
-use Rattle.commit_images.specs.Scene.{Commit, HasFailed, NotTried, Scene}
+use Rattle.commit_images.specs.Scene.{HasFailed, NotTried, Scene}
 use Rattle.flat_model.specs.Volume.{RunVolume}
 use Rattle.table_commit.specs.Commit.{AreLetGo, AreReleasable, AreReleased, IsReleasable, settled, with_each}
 use Rattle.tree_frame.specs.Frame.{AreCurrent}
@@ -21,12 +21,12 @@ use Rattle.tree_frame.proofs.Reading.{IsReadTree, read_tree}
 use Rattle.tree_range.specs.Shape.{IsTree, tree_reach}
 use Rattle.commit_blocks.specs.declared.kept.Kept.{Kept}
 use Rattle.commit_blocks.specs.Keeps.{IsGone, IsOut, IsTried, KeepsBlocks, old_roots, reach_there}
-use Rattle.commit_blocks.specs.Steps.{IsEnded, IsListOut, KeepsRest}
+use Rattle.commit_blocks.specs.Steps.{AreLetGoBehind, IsEnded, IsListOut, KeepsRest, released_by}
 use Rattle.commit_blocks.proofs.Back.{backed}
 use Rattle.commit_blocks.proofs.Finishing.{runs_out}
 use Rattle.commit_blocks.proofs.Read.{each}
 use Rattle.commit_blocks.proofs.Settling.{IsSettled, settled_free, settled_size, settled_slot, settled_tree}
-use Rattle.commit_blocks.proofs.TriedEnd.{IsRootEnd, tried_keeps}
+use Rattle.commit_blocks.proofs.TriedEnd.{IsRootEnd, tried_keeps, tried_let_go}
 
 module _ (old : Kept) (image : Image) (run : RunVolume) (scene : Scene) (keeps : KeepsBlocks old image run scene) (list : BlockList) (out : IsListOut old list) (root : Tree) (is : old.sealed ≡ Some root) where
   o : IsOut old scene root
@@ -78,6 +78,12 @@ module _ (old : Kept) (image : Image) (run : RunVolume) (scene : Scene) (keeps :
     module _ (new : Kept) (next : Scene) (ended : IsEnded scene next) (rest : KeepsRest old new) (table : new.table ≡ mid) (first : old.failed ≡ None) (failed_write : scene.progress ≡ HasFailed) (now_failed : new.failed ≡ Some root) (last : new.last ≡ old.last) (noted : new.let_go.items ≡ []) (capacity : length old.table.slots ≤ vec_capacity new.let_go) where
       roots_were : old_roots old ≡ tree_reach old.table old.last
       roots_were = ap (λ (tree : Option Tree). tree_reach old.table old.last ++ reach_there old.table tree) first ∙ append-nil (tree_reach old.table old.last)
+
+      pub first_let_go : AreLetGoBehind old.table new.table (tree_reach new.table root) (released_by old old.failed)
+      first_let_go = subst (λ (tree : Option Tree). AreLetGoBehind old.table new.table (tree_reach new.table root) (released_by old tree)) (sym first) (tried_let_go old image run scene keeps list out root is new next ended rest []
+          (λ at there. absurd (Rattle.blk_base.proofs.Members.in_nothing at there)) (λ at there. absurd (Rattle.blk_base.proofs.Members.in_nothing at there))
+          (λ at here. subst (λ (t : Table). IsRootEnd (block_at old.table at) (block_at t at)) (sym table) (root_end at here))
+          (λ at _ not_root. subst (λ (t : Table). IsSettled (block_at old.table at) (block_at t at)) (sym table) (other_end at not_root)))
 
       pub first_keeps : KeepsBlocks new image run next
       first_keeps = tried_keeps old image run scene keeps list out root is new next ended rest []
@@ -139,6 +145,13 @@ module _ (old : Kept) (image : Image) (run : RunVolume) (scene : Scene) (keeps :
 
       not_last_root : (at : ℕ) → Contains (tree_reach old.table root) at → Contains (tree_reach old.table old.last) at → ⊥
       not_last_root at r here = let w : Sealed ≡ LetGo = sym (o.root_sealed at r) ∙ keeps.found.last.ready at here in cc
+
+      pub later_let_go : AreLetGoBehind old.table new.table (tree_reach new.table root) (released_by old old.failed)
+      later_let_go = subst (λ (t : Option Tree). AreLetGoBehind old.table new.table (tree_reach new.table root) (released_by old t)) (sym later) (tried_let_go old image run scene keeps list out root is new next ended rest (tree_reach old.table old.last)
+          keeps.found.last.ready
+          (λ at there. ap (λ (s : BlockSlot). s.state) (released.each at (subst (λ (l : List ℕ). Contains l at) (sym last_read.reach) there)))
+          (λ at here. subst (IsRootEnd (block_at old.table at)) (sym (kept_now at (not_last_root at here))) (root_end at here))
+          (λ at not_gone not_root. subst (IsSettled (block_at old.table at)) (sym (kept_now at not_gone)) (other_end at not_root)))
 
       pub later_keeps : KeepsBlocks new image run next
       later_keeps = tried_keeps old image run scene keeps list out root is new next ended rest (tree_reach old.table old.last)

@@ -79,7 +79,8 @@ roots_room subs = if nat_le subs 8 then 1 else 3
 
 -- ---- the volume
 
--- The table has the current volume, in trees that may be sealed, for the next full commit's generation; and so much stays that a seal has room (own).
+-- The table has the current volume, in trees that may be sealed, for the next full commit's generation; and so much stays that a seal has room. No block leaks:
+-- each one in use that wasn't let go is of the current volume, or of the root tree of the full commit that runs (own).
 pub record IsCurrent (kept : Kept) (run : RunVolume) : Type 0 where
   pub least : 4096 ≤ length kept.table.slots
   pub most : length kept.table.slots ≤ 65536
@@ -91,6 +92,8 @@ pub record IsCurrent (kept : Kept) (run : RunVolume) : Type 0 where
   pub ready : All (λ (state : SubState). IsReady kept.table state.tree kept.fsid) kept.states.items
   pub above : All (λ (state : SubState). BusyIsAbove state.tree.level kept.table state.tree.root.0) kept.states.items
   pub allowed : (at : ℕ) → (block_at kept.table at).state ≢ Free → IsAllowed (length kept.table.slots) at
+  pub used : (at : ℕ) → (block_at kept.table at).state ≢ Free → (block_at kept.table at).state ≢ LetGo
+      → Contains (states_reach kept.table kept.states.items) at ⊎ Contains (reach_there kept.table kept.sealed) at
   pub fits : length (states_reach kept.table kept.states.items) + roots_room (length kept.states.items) + 198 ≤ length kept.table.slots
   pub free : 100 ≤ free_blocks kept.table + length (old_roots kept) + length (reach_there kept.table kept.sealed)
   pub last_few : length (tree_reach kept.table kept.last) ≤ 33
@@ -135,8 +138,8 @@ pub record IsTried (kept : Kept) (scene : Scene) (commit : Commit) : Type 0 wher
   pub spared : (tree : Tree) → kept.failed ≡ Some tree → (other : Commit) → Contains scene.found other → AreApart (tree_reach kept.table kept.last) other
   pub written : scene.progress ≡ IsWritten → others ≡ []
 
--- One runs with this root tree: it reaches all of the current volume that isn't edited again; and what was let go before its seal, the older root trees among it,
--- it doesn't reach (own).
+-- One runs with this root tree: it reaches that tree, all of the current volume that isn't edited again, and what was let go since its seal; and what was let go
+-- before its seal, the older root trees among it, it doesn't reach (own).
 pub record IsOut (kept : Kept) (scene : Scene) (root : Tree) : Type 0 where
   pub commit : Commit
   pub runs : scene.batch ≡ Some commit
@@ -146,6 +149,9 @@ pub record IsOut (kept : Kept) (scene : Scene) (root : Tree) : Type 0 where
   pub root_apart : (at : ℕ) → Contains (tree_reach kept.table root) at → Contains (states_reach kept.table kept.states.items) at → ⊥
   pub held : HoldsCommit kept.table commit
   pub reaches : (at : ℕ) → Contains (states_reach kept.table kept.states.items) at → (block_at kept.table at).state ≢ Dirty → Contains commit.blocks (numbered_at kept.table at)
+  pub root_reached : (at : ℕ) → Contains (tree_reach kept.table root) at → Contains commit.blocks (numbered_at kept.table at)
+  pub since : (at : ℕ) → (block_at kept.table at).state ≡ LetGo → (Contains (addresses_of kept.let_go.items) at → ⊥)
+      → Contains commit.blocks (numbered_at kept.table at)
   pub noted_once : NoneTwice (addresses_of kept.let_go.items)
   pub noted : AreReleasable kept.table (addresses_of kept.let_go.items)
   pub noted_apart : AreApart (addresses_of kept.let_go.items) commit

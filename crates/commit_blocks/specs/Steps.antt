@@ -1,6 +1,6 @@
 -- What a seal of the whole volume, and its end, leave of the blocks.
-use Rattle.std.specs.Prelude.{◌≡◌, ◌≤◌, ◌-◌, ◌⊎◌, false, ℕ, List, length, map, Contains, Option, None, Some, vec_capacity}
-use Rattle.blk_base.specs.Superblock.{IsSuper, SuperValue, super_bytes}
+use Rattle.std.specs.Prelude.{◌≡◌, ◌≤◌, ◌-◌, ◌⊎◌, false, ℕ, List, [], length, map, Contains, Option, None, Some, vec_capacity}
+use Rattle.blk_base.specs.Superblock.{IsSuper, super_bytes}
 use Rattle.blk_base.specs.Trees.{AtBlock}
 use Rattle.block_table.specs.declared.state.SlotState.{SlotState}
 use Rattle.block_table.specs.declared.state.SlotState.TheVariants.{LetGo, Sealed}
@@ -73,3 +73,14 @@ pub record KeepsRest (old new : Kept) : Type 0 where
 pub record HasMoreSpare (old new : Kept) : Type 0 where
   pub spare : old.table.spare ≤ new.table.spare
   pub same : new ≡ record old { table = with_spare old.table new.table.spare }
+
+-- The blocks that are LetGo behind a step are exactly those that it let go, `made`, and those that were LetGo before it, but for the ones that it released (own).
+pub record AreLetGoBehind (old new : Table) (made released : List ℕ) : Type 0 where
+  pub only : (at : ℕ) → (block_at new at).state ≡ LetGo → Contains made at ⊎ (((block_at old at).state ≡ LetGo) × (Contains released at → ⊥))
+  pub made_so : (at : ℕ) → Contains made at → (block_at new at).state ≡ LetGo
+  pub stays : (at : ℕ) → (block_at old at).state ≡ LetGo → (Contains released at → ⊥) → (block_at new at).state ≡ LetGo
+
+-- what the end of a full commit releases whose superblock failed: where one failed before too, the root tree of the one that no crash finds any more (own)
+abbrev pub released_by : Kept → Option Tree → List ℕ
+released_by kept None = []
+released_by kept (Some tree) = tree_reach kept.table kept.last

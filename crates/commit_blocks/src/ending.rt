@@ -1,10 +1,15 @@
 //! The end of a full commit.
-ghost use Rattle.std.specs.Prelude.{◌≡◌, None, Some};
+ghost use Rattle.std.specs.Prelude.{◌≡◌, [], Contains, None, Some, ℕ};
+ghost use Rattle.block_table.specs.TreeIn.{block_at};
+ghost use Rattle.block_table.specs.declared.state.SlotState.TheVariants.{LetGo};
+ghost use Rattle.block_table.specs.declared.tree.Tree.{Tree as RootTree};
 ghost use Rattle.blk_base.specs.Bytes.{Image};
-ghost use Rattle.commit_images.specs.Scene.{HasFailed, IsWritten, NotTried, Scene};
+ghost use Rattle.commit_images.specs.Scene.{Commit, HasFailed, IsWritten, NotTried, Scene};
 ghost use Rattle.flat_model.specs.Volume.{RunVolume};
-ghost use Rattle.commit_blocks.specs.Keeps.{KeepsBlocks};
-ghost use Rattle.commit_blocks.specs.Steps.{IsEnded, IsListOut, IsRunning, KeepsRest};
+ghost use Rattle.commit_blocks.specs.Keeps.{KeepsBlocks, numbered_at};
+ghost use Rattle.table_commit.specs.Commit.{addresses_of};
+ghost use Rattle.tree_range.specs.Shape.{tree_reach};
+ghost use Rattle.commit_blocks.specs.Steps.{AreLetGoBehind, IsEnded, IsListOut, IsRunning, KeepsRest, released_by};
 
 use crate::Kept;
 use block_table::{Blocks, Tree};
@@ -20,6 +25,12 @@ impl Kept {
         ensures keeps { (image : Image) (run : RunVolume) (scene next : Scene) → KeepsBlocks self.old image run scene → scene.progress ≡ IsWritten
             → IsEnded scene next → KeepsBlocks self.new image run next }
         ensures rest { KeepsRest self.old self.new }
+        ensures last { self.old.sealed ≡ Some self.new.last }
+        ensures failed { self.new.failed ≡ None }
+        ensures let_go { AreLetGoBehind self.old.table self.new.table (tree_reach self.new.table self.new.last) (addresses_of self.old.let_go.items) }
+        ensures reached { (image : Image) (run : RunVolume) (scene : Scene) → KeepsBlocks self.old image run scene → scene.progress ≡ IsWritten
+            → (commit : Commit) → Contains scene.found commit → (at : ℕ) → (block_at self.new.table at).state ≡ LetGo
+            → Contains commit.blocks (numbered_at self.new.table at) }
     {
         self.table.put_back(list);
         settle_sealed(&mut self.table);
@@ -41,6 +52,9 @@ impl Kept {
         ensures keeps { (image : Image) (run : RunVolume) (scene next : Scene) → KeepsBlocks self.old image run scene → scene.progress ≡ NotTried
             → IsEnded scene next → KeepsBlocks self.new image run next }
         ensures rest { KeepsRest self.old self.new }
+        ensures last { self.new.last ≡ self.old.last }
+        ensures failed { self.new.failed ≡ self.old.failed }
+        ensures let_go { AreLetGoBehind self.old.table self.new.table [] [] }
     {
         self.table.put_back(list);
         unseal_sealed(&mut self.table);
@@ -60,6 +74,9 @@ impl Kept {
         ensures keeps { (image : Image) (run : RunVolume) (scene next : Scene) → KeepsBlocks self.old image run scene → scene.progress ≡ HasFailed
             → IsEnded scene next → KeepsBlocks self.new image run next }
         ensures rest { KeepsRest self.old self.new }
+        ensures failed { self.new.failed ≡ self.old.sealed }
+        ensures let_go { (root : RootTree) → self.old.sealed ≡ Some root
+            → AreLetGoBehind self.old.table self.new.table (tree_reach self.new.table root) (released_by self.old self.old.failed) }
     {
         match self.failed {
             None => self.keep_first(list),
@@ -76,6 +93,9 @@ impl Kept {
         ensures keeps { (image : Image) (run : RunVolume) (scene next : Scene) → KeepsBlocks self.old image run scene → scene.progress ≡ HasFailed
             → IsEnded scene next → KeepsBlocks self.new image run next }
         ensures rest { KeepsRest self.old self.new }
+        ensures failed { self.new.failed ≡ self.old.sealed }
+        ensures let_go { (root : RootTree) → self.old.sealed ≡ Some root
+            → AreLetGoBehind self.old.table self.new.table (tree_reach self.new.table root) (released_by self.old self.old.failed) }
     {
         self.table.put_back(list);
         settle_sealed(&mut self.table);
@@ -96,6 +116,9 @@ impl Kept {
         ensures keeps { (image : Image) (run : RunVolume) (scene next : Scene) → KeepsBlocks self.old image run scene → scene.progress ≡ HasFailed
             → IsEnded scene next → KeepsBlocks self.new image run next }
         ensures rest { KeepsRest self.old self.new }
+        ensures failed { self.new.failed ≡ self.old.sealed }
+        ensures let_go { (root : RootTree) → self.old.sealed ≡ Some root
+            → AreLetGoBehind self.old.table self.new.table (tree_reach self.new.table root) (released_by self.old self.old.failed) }
     {
         self.table.put_back(list);
         settle_sealed(&mut self.table);

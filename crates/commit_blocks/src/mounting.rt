@@ -1,5 +1,5 @@
 //! The blocks of a volume that was mounted.
-ghost use Rattle.std.specs.Prelude.{◌≡◌, IfOk, None, length, ℕ};
+ghost use Rattle.std.specs.Prelude.{◌≡◌, [], IfOk, None, length, ℕ};
 ghost use Rattle.blk_base.specs.Bytes.{Image};
 ghost use Rattle.commit_images.specs.Scene.{Commit, first_scene};
 ghost use Rattle.disk_model.specs.Disk.{Held};
@@ -7,7 +7,9 @@ ghost use Rattle.flat_model.specs.Volume.{RunVolume};
 ghost use Rattle.tree_mount.specs.Mounted.{IsReadyMount};
 ghost use Rattle.volume_image.specs.Roots.{next_generation};
 ghost use Rattle.commit_blocks.specs.Keeps.{KeepsBlocks};
+ghost use Rattle.tree_range.specs.Shape.{tree_reach};
 ghost use Rattle.commit_blocks.specs.Mounting.{IsMountOf};
+ghost use Rattle.commit_blocks.specs.Steps.{AreLetGoBehind};
 
 use crate::Kept;
 use blk_base::OutOfMemory;
@@ -25,6 +27,7 @@ impl Kept {
         ensures size { IfOk result (λ kept. length kept.table.slots ≡ length mounted.table.slots) }
         ensures fsid { IfOk result (λ kept. kept.fsid ≡ mounted.superblock.fsid) }
         ensures generation { IfOk result (λ kept. kept.generation ≡ next_generation mounted.superblock.generation) }
+        ensures let_go { IfOk result (λ kept. AreLetGoBehind mounted.table kept.table (tree_reach kept.table kept.last) []) }
         ensures quiet { IfOk result (λ kept. kept.sealed ≡ None) }
     {
         let Mounted {

@@ -1,3 +1,4 @@
 pub mod Coming
 pub mod Holding
 pub mod Sealed
+pub mod Few

@@ -4,10 +4,11 @@ ghost use Rattle.commit_history.specs.declared.event.OpEnd.TheVariants as ends;
 ghost use Rattle.commit_history.specs.declared.event.Turn.TheVariants as turns;
 ghost use Rattle.commit_history.specs.Legal.{HoldsFull, MaySealFull};
 ghost use Rattle.commit_images.specs.Admissible.{IsFailureOf, MayHappen};
-ghost use Rattle.commit_images.specs.Scene.{Happening, IsWritten, Mounted, Nothing, Scene, scene_after};
+ghost use Rattle.commit_images.specs.Scene.{Comes, Happening, IsWritten, Mounted, Nothing, Scene, scene_after};
 ghost use Rattle.commit_room.specs.Room.{free_blocks};
 ghost use Rattle.flat_model.specs.Step.{IsInLimits};
 ghost use Rattle.commit_core.specs.Coming.{HasCome, IsDeviceCall, IsOpDone, IsUnfinished, call_in, state_of};
+ghost use Rattle.commit_core.specs.Few.{HasFew, IsJustSealed};
 ghost use Rattle.commit_core.specs.Holding.{HasFailed, IsFullOf, holder_of};
 ghost use Rattle.commit_core.specs.Sealed.{HavePlaces, IsSealedFull, SaysCommit};
 ghost use Rattle.blk_base.specs.declared.key.Marks.{Marks};
@@ -108,13 +109,17 @@ pub trait Core {
         ensures fsid { fsid self.new ≡ fsid self.old }
         ensures generation { generation self.new ≡ (generation self.old + 1) % 2 ^ 64 };
 
-    /// The superblock of the full commit is written. Takes the batch back. Takes no memory.
+    /// The superblock of the full commit is written. Where nothing else came since its seal, few blocks are in use behind it.
+    /// Takes the batch back. Takes no memory.
     fn full_done(&mut self, caller: u32, batch: Batch)
         requires caller { (1 ≤ caller) × (caller ≤ 16) }
         requires out { out self.old batch }
         requires has { (mounted : Mounted) × (scene : Scene) × has self.old mounted scene × IsFullOf mounted scene caller × (scene.progress ≡ IsWritten) }
         ensures came { (mounted : Mounted) (scene : Scene) → has self.old mounted scene → IsFullOf mounted scene caller → scene.progress ≡ IsWritten
             → HasCome (has self.new) mounted scene (event.FullDone caller) Nothing }
+        ensures few { (mounted : Mounted) (scene : Scene) → has self.old mounted scene → IsFullOf mounted scene caller → scene.progress ≡ IsWritten
+            → IsJustSealed scene caller
+            → HasFew mounted (scene_after mounted.volume scene (Comes (event.FullDone caller) Nothing)) (length (in_use self.new)) }
         ensures marks { marks self.new ≡ record { done = batch.seal; tried = batch.seal; full = batch.seal } }
         ensures seals { seals self.new ≡ seals self.old }
         ensures size { size self.new ≡ size self.old }

@@ -2,7 +2,7 @@
 use blk_base::OutOfMemory;
 use disk_memory::MemoryDisk;
 use io_edge::{MemorySink, MemorySource};
-use script_runner::drive;
+use script_runner::{Run, drive};
 use std::alloc::Global;
 
 /// How many calls a disk keeps in its record.
@@ -21,7 +21,8 @@ fn command(
     }
     let mut from = MemorySource::new(alloc, script.as_bytes(), &[])?;
     let mut to = MemorySink::new(alloc, &[])?;
-    drive(alloc, &all, &mut from, &mut to, disk);
+    let mut run = Run::new(alloc);
+    drive(alloc, &all, &mut from, &mut to, disk, &mut run);
     Ok(to)
 }
 

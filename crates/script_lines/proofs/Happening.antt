@@ -1,9 +1,10 @@
 -- What happened in the calls of a run, one behind the other.
 use Rattle.std.proofs.Common.{◌++◌, ◌∷◌, [], ℕ, List, length, Option, Result, append-nil, refl, sym, ap, subst, ◌∙◌, arith}
 use Rattle.commit_device.specs.Calls.{AreTold, calls_of}
-use Rattle.commit_device.proofs.Joined.{admissible_joined, behind_joined, calls_joined, commits_joined}
+use Rattle.commit_device.proofs.Joined.{admissible_joined, behind_joined, calls_joined}
 use Rattle.commit_device.proofs.Told.{told_joined}
-use Rattle.commit_images.specs.Admissible.{AreAdmissible}
+use Rattle.commit_core.specs.Sealed.{CommitsStandWhole}
+use Rattle.commit_images.specs.Admissible.{AreAdmissible, CommitsStand}
 use Rattle.commit_images.specs.Scene.{Happening, Mounted, Scene, scene_behind}
 use Rattle.disk_model.specs.Disk.{Call}
 use Rattle.disk_model.proofs.CrashLaws.{GoesOn-joins}
@@ -12,11 +13,17 @@ use Rattle.flat_model.specs.declared.request.Line.{Line}
 use Rattle.flat_model.specs.declared.request.Line.TheVariants.{Plain, Start, Step, End}
 use Rattle.volume_calls.specs.Between.{Between}
 use Rattle.volume_calls.specs.Calls.{HaveHappened}
+use Rattle.volume_calls.proofs.Happened.{whole_joined}
 use Rattle.volume_image.specs.Stands.{Stands}
 use Rattle.volume_image.proofs.Lists.{in_nothing}
 use Rattle.script_lines.specs.declared.fault.RunFault.{RunFault}
 use Rattle.script_lines.specs.Happened.{AllHappened}
 use Rattle.script_lines.specs.Lines.{AreCalled, AllRun, HasRun, MemoryLacked, SinkFailedAtEnd, SinkFailedInLine}
+
+-- a commit that stands by what it reaches stands
+pub whole_stand : (size : ℕ) (happenings : List Happening) → CommitsStandWhole size happenings → CommitsStand Stands size happenings
+whole_stand size happenings whole = λ came blocks commit there image is same has.
+    (let it = whole came blocks commit there image is same has in record { reach = it.reach; by_reach = it.by_reach })
 
 nothing : (mounted : Mounted) (at : Between) → AllHappened mounted at at
 nothing mounted at = record {
@@ -48,7 +55,7 @@ joined mounted before mid after one two = record {
   added = one.added ++ two.added;
   admissible = admissible_joined mounted before.scene one.happenings two.happenings one.admissible (subst (λ (s : Scene). AreAdmissible mounted s two.happenings) one.behind two.admissible);
   behind = two.behind ∙ ap (λ (s : Scene). scene_behind mounted.volume s two.happenings) one.behind ∙ sym (behind_joined mounted.volume before.scene one.happenings two.happenings);
-  commits = commits_joined Stands (length mounted.image) one.happenings two.happenings one.commits two.commits;
+  commits = whole_joined (length mounted.image) one.happenings two.happenings one.commits two.commits;
   goes_on = GoesOn-joins before.told mid.told after.told one.added two.added one.goes_on two.goes_on;
   told =
       subst (λ (calls : List Call). AreTold calls (one.added ++ two.added)) (sym (calls_joined mounted.volume before.scene one.happenings two.happenings))

@@ -1,3 +1,4 @@
 pub mod Allowed
 pub mod Happening
 pub mod Running
+pub mod Lacking

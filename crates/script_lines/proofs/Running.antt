@@ -12,7 +12,8 @@ use Rattle.flat_model.specs.declared.request.Line.{Line}
 use Rattle.flat_model.specs.declared.request.Line.TheVariants.{Plain, Start, Step, End}
 use Rattle.flat_model.specs.declared.request.Request.{Request}
 use Rattle.script_answer.specs.Words.{answer_line, done_line}
-use Rattle.volume_calls.specs.Between.{Between}
+use Rattle.disk_model.specs.Disk.{Told}
+use Rattle.volume_calls.specs.Between.{Between, TellsStill}
 use Rattle.volume_calls.specs.Calls.{IsCalled}
 use Rattle.script_lines.specs.declared.fault.RunFault.{RunFault}
 use Rattle.script_lines.specs.declared.fault.RunFault.TheVariants as faults
@@ -126,3 +127,17 @@ no_more (line ∷ lines) is = absurd (omega (arith, is))
 -- all lines were run where none is left
 pub all_done : (lines so_far rest : List Line) → lines ≡ so_far ++ rest → length rest ≡ 0 → so_far ≡ lines
 all_done lines so_far rest split none = sym (append-nil so_far) ∙ ap (λ (ls : List Line). so_far ++ ls) (sym (no_more rest none)) ∙ sym split
+
+-- ---- whether the disk tells its record
+
+pub tells_same : (told : Option Told) → TellsStill told told
+tells_same None = tt
+tells_same (Some told) = tt
+
+pub tells_on : (one two three : Option Told) → TellsStill one two → TellsStill two three → TellsStill one three
+tells_on None None None first second = tt
+tells_on None None (Some three) first second = absurd second
+tells_on None (Some two) three first second = absurd first
+tells_on (Some one) None three first second = absurd first
+tells_on (Some one) (Some two) None first second = absurd second
+tells_on (Some one) (Some two) (Some three) first second = tt

@@ -8,5 +8,8 @@ mod laws;
 mod run;
 
 pub use fault::RunFault;
-pub use laws::{a_run_has_happened, a_script_is_allowed, images_of_a_run_stand};
+pub use laws::{
+    a_run_has_happened, a_script_is_allowed, images_of_a_run_stand,
+    no_space_in_a_run_is_within_the_bound,
+};
 pub use run::run_lines;

@@ -4,7 +4,7 @@ ghost use Rattle.commit_images.specs.Scene.{Mounted};
 ghost use Rattle.disk_model.specs.Disk.{HasRisen};
 ghost use Rattle.script_lines.specs.Lines.{AreAllowed, HasRun, HasRunLine, IsAllowedLine};
 ghost use Rattle.flat_model.specs.declared.request.Line.TheVariants.{Plain};
-ghost use Rattle.volume_calls.specs.Between.{Between, IsBetween, IsDiskAt};
+ghost use Rattle.volume_calls.specs.Between.{Between, IsBetween, IsDiskAt, TellsStill};
 
 use crate::fault::RunFault;
 use commit_core::Core;
@@ -43,12 +43,13 @@ fn run_line<C: Core, K: Sink, D: Disk>(
     requires more { C.seals core.old + 2 < 2 ^ 64 }
     ensures ran { (mounted : Mounted) (at : Between) → IsBetween (C.has core.old) (C.size core.old) (C.marks core.old) device.old (D.count disk.old) mounted at
         → IsDiskAt (D.told disk.old) (D.faults disk.old) at → (next : Between) × HasRunLine mounted line at next (K.taken to.old) (K.taken to.new) result
-        × IsDiskAt (D.told disk.new) (D.faults disk.new) next
+        × C.has core.new mounted next.scene × IsDiskAt (D.told disk.new) (D.faults disk.new) next
         × OnOk result (IsBetween (C.has core.new) (C.size core.new) (C.marks core.new) device.new (D.count disk.new) mounted next) }
     ensures sink_fault { result ≡ Err RunFault.Sink → HasRisen (K.faults to.old) (K.faults to.new) }
     ensures seals { C.seals core.new ≤ C.seals core.old + 1 }
     ensures counted { K.faults to.old ≤ K.faults to.new }
     ensures disk_counted { D.faults disk.old ≤ D.faults disk.new }
+    ensures tells { TellsStill (D.told disk.old) (D.told disk.new) }
     ensures size { D.count disk.new ≡ D.count disk.old }
 {
     let (caller, request) = plain_of(line);
@@ -79,10 +80,11 @@ pub fn run_lines<C: Core, K: Sink, D: Disk>(
     requires more { C.seals core.old + length lines.items + 2 < 2 ^ 64 }
     ensures ran { (mounted : Mounted) (at : Between) → IsBetween (C.has core.old) (C.size core.old) (C.marks core.old) device.old (D.count disk.old) mounted at
         → IsDiskAt (D.told disk.old) (D.faults disk.old) at → (next : Between) × HasRun mounted lines.items at next (K.taken to.old) (K.taken to.new) result
-        × IsDiskAt (D.told disk.new) (D.faults disk.new) next }
+        × C.has core.new mounted next.scene × IsDiskAt (D.told disk.new) (D.faults disk.new) next }
     ensures sink_fault { result ≡ Err RunFault.Sink → HasRisen (K.faults to.old) (K.faults to.new) }
     ensures counted { K.faults to.old ≤ K.faults to.new }
     ensures disk_counted { D.faults disk.old ≤ D.faults disk.new }
+    ensures tells { TellsStill (D.told disk.old) (D.told disk.new) }
     ensures size { D.count disk.new ≡ D.count disk.old }
 {
     let count = lines.len() as u64;

@@ -17,7 +17,7 @@ use Rattle.commit_images.specs.Scene.{Commit, Happening, HasCommit, Mounted, Sce
 use Rattle.commit_images.proofs.FoundBy.{found_is_durable}
 use Rattle.device_side.specs.Device.{Device, new_device}
 use Rattle.disk_model.specs.Disk.{Held, IfTold, Leaves, Told, held_now, image_now, known}
-use Rattle.disk_model.proofs.CrashLaws.{known_as_told}
+use Rattle.disk_model.proofs.CrashLaws.{held_now-goes_on, known_as_told}
 use Rattle.flat_model.specs.Coherent.{IsCoherentVolume}
 use Rattle.flat_model.specs.Volume.{RunVolume, Volume, mounted as run_begun, volume_of}
 use Rattle.flat_model.specs.declared.request.Line.{Line}
@@ -25,13 +25,22 @@ use Rattle.flat_model.proofs.Maps.{some_same}
 use Rattle.image_order.proofs.Finding.{is_found}
 use Rattle.tree_mount.specs.declared.mounted.Mounted.{Mounted as Found}
 use Rattle.tree_mount.specs.Mounted.{IsMountedAs, IsReadyMount, mount_reach}
-use Rattle.volume_calls.specs.Between.{Between, IsBetween, IsDiskAt}
+use Rattle.volume_calls.specs.Between.{Between, IsBetween, IsDiskAt, TellsStill}
 use Rattle.volume_image.specs.Stands.{AgreesOn, Stands, StandsBy}
-use Rattle.volume_image.proofs.Members.{in_map}
+use Rattle.volume_image.proofs.Members.{in_map, map_in}
+use Rattle.volume_image.proofs.Standing.{stands_local}
+use Rattle.commit_core.specs.Sealed.{StandsWhole}
+use Rattle.commit_blocks.proofs.Read.{each as each_of}
+use Rattle.commit_history.specs.declared.event.Event.{Event}
 use Rattle.script_lines.specs.declared.fault.RunFault.{RunFault}
 use Rattle.script_lines.specs.Happened.{AllHappened}
 use Rattle.script_lines.specs.Lines.{HasRun}
-use Rattle.script_runner.specs.Run.{FindsWholeVolume, HasLostNone, IsRunOn, Mounts, Outside, outside}
+use Rattle.script_runner.specs.Run.{EndsSettled, FindsWholeVolume, HasLostNone, IsRunOn, IsSettled, Mounts, Outside, outside}
+use Rattle.run_history.specs.Recorded.{IsRecorded}
+use Rattle.run_history.specs.declared.recorder.Recorder.{Recorder}
+use Rattle.volume_core.specs.declared.volume.Volume.{Volume as Volume_}
+use Rattle.volume_core.specs.Keeps.{IsVolume}
+use Rattle.script_runner.proofs.Ending.{ends_settled}
 use Rattle.script_runner.proofs.Mounting.{GoesWithMount, goes_with_mount, taken}
 
 -- ---- the begin
@@ -44,8 +53,8 @@ start_told (Some told) image = told
 abbrev pub start_held : Option Told → Image → Held
 start_held told image = held_now (start_told told image)
 
-abbrev pub start_at : Option Told → ℕ → Image → Commit → Between
-start_at told faults image first = record { scene = first_scene (start_held told image) first; told = start_told told image; faults = faults }
+abbrev pub start_at : Option Told → ℕ → Image → Commit → ℕ → Between
+start_at told faults image first blocks = record { scene = first_scene (start_held told image) first; told = start_told told image; faults = faults; blocks = blocks }
 
 -- what holds of what a disk tells holds of what is known of it
 known_holds : (P : Image → Type 0) (seen : Option Image) (lost : List ℕ) → IfTold seen P → IfTold (known seen lost) P
@@ -65,8 +74,8 @@ start_is : (told : Option Told) (image : Image) → IfTold told (λ now. now ≡
 start_is None image = tt
 start_is (Some told) image = refl
 
-at_the_start : (told : Option Told) (faults : ℕ) (image : Image) (first : Commit) → IsDiskAt told faults (start_at told faults image first)
-at_the_start told faults image first = record { told = start_is told image; faults = refl }
+at_the_start : (told : Option Told) (faults : ℕ) (image : Image) (first : Commit) (blocks : ℕ) → IsDiskAt told faults (start_at told faults image first blocks)
+at_the_start told faults image first blocks = record { told = start_is told image; faults = refl }
 
 pub holds_itself : (held : Held) → HoldsAtLeast held held
 holds_itself held = record { image = refl; pending = refl; lost = refl; supers = λ bytes c. c }
@@ -78,6 +87,20 @@ pub record IsNewVolume (Has : Mounted → Scene → Type 0) (blocks : ℕ) (mark
   pub size : blocks ≡ length m.table.slots
   pub at_zero : marks ≡ record { done = 0; tried = 0; full = 0 }
   pub untouched : device ≡ new_device
+
+-- such a core is a recorder over a new volume
+pub recorded_new : (m : Found) (volume : Volume_) (core : Recorder Volume_) (device : Device) → core.core ≡ volume
+    → ((mounted : Mounted) (held : Held) (commit : Commit) → IsVolume volume mounted (first_scene held commit) → IsRecorded (IsVolume core.core) core.run mounted (first_scene held commit))
+    → ((image : Image) (run : RunVolume) (held : Held) (commit : Commit) → IsMountOf image m run commit → IsCoherentVolume (volume_of run) → run ≡ run_begun (volume_of run)
+    → IsVolume volume (record { volume = volume_of run; image = image }) (first_scene held commit))
+    → length volume.kept.table.slots ≡ length m.table.slots → volume.marks ≡ record { done = 0; tried = 0; full = 0 } → device ≡ new_device
+    → IsNewVolume (IsRecorded (IsVolume core.core) core.run) (length core.core.kept.table.slots) core.core.marks device m
+recorded_new m volume core device same recorded has size marks untouched = record {
+  has = λ image run held commit of_mount coherent begun. recorded (record { volume = volume_of run; image = image }) held commit (has image run held commit of_mount coherent begun);
+  size = ap (λ (v : Volume_). length v.kept.table.slots) same ∙ size;
+  at_zero = ap (λ (v : Volume_). v.marks) same ∙ marks;
+  untouched = untouched;
+}
 
 -- what is known of the disk right behind the mount
 pub record StartsWith (m : Found) (count : ℕ) (seen : Option Image) (told : Option Told) : Type 0 where
@@ -196,8 +219,8 @@ module _ (m : Found) (count : ℕ) (ready : IsReadyMount m count) (image : Image
 
   crash : (stand : RunsStand) (seen : Option Image) (told : Option Told) (faults : ℕ) (next : Between) → GoesWithMount m count seen image run volume
       → IfTold told (λ old. HasLostNone old → seen ≡ Some (image_now old)) → IfTold told (λ old. Leaves (held_now old) (image_now old))
-      → (happened : AllHappened the_mounted (start_at told faults image commit) next)
-      → IfTold told (λ old. HasLostNone old → FindsWholeVolume old → EachMomentStands Mounts volume (start_at told faults image commit).scene happened.happenings old next.told)
+      → (happened : AllHappened the_mounted (start_at told faults image commit m.superblock.blocks) next)
+      → IfTold told (λ old. HasLostNone old → FindsWholeVolume old → EachMomentStands Mounts volume (start_at told faults image commit m.superblock.blocks).scene happened.happenings old next.told)
   crash stand seen None faults next goes same left happened = tt
   crash stand seen (Some old) faults next goes same left happened = λ none finds.
       let here : GoesWithMount m count (Some (image_now old)) image run volume = subst (λ (s : Option Image). GoesWithMount m count s image run volume) (same none) goes in
@@ -205,7 +228,40 @@ module _ (m : Found) (count : ℕ) (ready : IsReadyMount m count) (image : Image
       let there : GoesWithMount m count (Some image) image run volume = subst (λ (i : Image). GoesWithMount m count (Some i) image run volume) is here in
       let by = by_the_mount m count ready image run volume old is there left finds in
       moments_mount volume (first_scene (held_now old) commit) happened.happenings old next.told
-      (stand the_mounted (held_now old) commit (start_at (Some old) faults image commit) next there.coherent by refl (holds_itself (held_now old)) happened)
+      (stand the_mounted (held_now old) commit (start_at (Some old) faults image commit m.superblock.blocks) next there.coherent by refl (holds_itself (held_now old)) happened)
+
+  -- an image that has the superblock of the mount, and all that it reaches, stands by that
+  whole : GoesWithMount m count (Some image) image run volume → StandsWhole (length image) commit
+  whole goes other blocks same has =
+      let long : 16 < length image = (let size = goes.size in let least = ready.least in let fits = ready.on_disk in omega (arith, size, least, fits)) in
+      let far : 16 < length other = omega (arith, long, same) in
+      record {
+        reach = mount_reach m;
+        by_reach = stands_local image other volume (mount_reach m) goes.by_reach (record {
+          size = sym same;
+          super = slice_get-get_or image 16 [] long ∙ ap Some (goes.has.superblock ∙ sym has.superblock) ∙ sym (slice_get-get_or other 16 [] far);
+          blocks = each_of (λ (at : ℕ). slice_get image (at / 4096) ≡ slice_get other (at / 4096)) (mount_reach m) (λ at there.
+              let here = map_in (numbered_at m.table) (mount_reach m) at there in
+              goes.has.blocks (numbered_at m.table at) here ∙ sym (has.blocks (numbered_at m.table at) here));
+        });
+        within = λ at there. (numbered_at m.table at, map_in (numbered_at m.table) (mount_reach m) at there, refl);
+      }
+
+  -- a next run may begin
+  settles : (seen : Option Image) (told told_now : Option Told) (faults : ℕ) (next : Between) → GoesWithMount m count seen image run volume
+      → IfTold told (λ old. HasLostNone old → seen ≡ Some (image_now old)) → IfTold told (λ old. Leaves (held_now old) (image_now old))
+      → IfTold told_now (λ now. Leaves (held_now now) (image_now now)) → IfTold told_now (λ now. now ≡ next.told) → TellsStill told told_now
+      → AllHappened the_mounted (start_at told faults image commit m.superblock.blocks) next → IfTold told (λ old. IsSettled old → EndsSettled next.told)
+  settles seen None told_now faults next goes same left left_now last tells happened = tt
+  settles seen (Some old) None faults next goes same left left_now last tells happened = absurd tells
+  settles seen (Some old) (Some now) faults next goes same left left_now last tells happened = λ settled.
+      let here : GoesWithMount m count (Some (image_now old)) image run volume = subst (λ (s : Option Image). GoesWithMount m count s image run volume) (same settled.none_lost) goes in
+      let is : image_now old ≡ image = here.mounts.0 in
+      let there : GoesWithMount m count (Some image) image run volume = subst (λ (i : Image). GoesWithMount m count (Some i) image run volume) is here in
+      let by = by_the_mount m count ready image run volume old is there left settled.finds in
+      ends_settled the_mounted (held_now old) commit old next.told next.scene there.coherent by (whole there) happened.happenings happened.added (holds_itself (held_now old))
+      happened.admissible happened.behind happened.commits happened.told (held_now-goes_on old next.told happened.added happened.goes_on)
+      (subst (λ (t : Told). Leaves (held_now t) (image_now t)) last left_now)
 
   first_told : (told : Option Told) → IfTold told (λ one. (start_told told image ≡ one) × (start_held told image ≡ held_now one))
   first_told None = tt
@@ -215,7 +271,7 @@ module _ (m : Found) (count : ℕ) (ready : IsReadyMount m count) (image : Image
   begins_between : (Has : Mounted → Scene → Type 0) (blocks : ℕ) (marks : Marks) (device : Device) (seen : Option Image) (told : Option Told) (faults : ℕ) → GoesWithMount m count seen image run volume
       → IsNewVolume Has blocks marks device m → IfTold told (λ one. length (image_now one) ≡ count)
       → IsOrderly the_mounted (first_scene (start_held told image) commit) → ((caller : ℕ) → IsOver (call_in the_mounted (first_scene (start_held told image) commit) caller))
-      → IsBetween Has blocks marks device count the_mounted (start_at told faults image commit)
+      → IsBetween Has blocks marks device count the_mounted (start_at told faults image commit m.superblock.blocks)
   begins_between Has blocks marks device seen told faults goes new size orderly over = record {
     has = subst (λ (v : Volume). Has (record { volume = v; image = image }) (first_scene (start_held told image) commit)) goes.is_volume
         (new.has image run (start_held told image) commit goes.of_mount (subst IsCoherentVolume (sym goes.is_volume) goes.coherent) goes.begun);
@@ -229,6 +285,7 @@ module _ (m : Found) (count : ℕ) (ready : IsReadyMount m count) (image : Image
     };
     done = ap (λ (m : Marks). m.done) new.at_zero ∙ ap (λ (d : Device). d.marks.done) (sym new.untouched);
     tried = ap (λ (m : Marks). m.tried) new.at_zero ∙ ap (λ (d : Device). d.marks.tried) (sym new.untouched);
+    blocks = sym (new.size ∙ ready.size);
     has_super = (let size = new.size in let is = ready.size in let least = ready.least in omega (arith, size, is, least));
     fits = (let size = new.size in let is = ready.size in let fits = ready.on_disk in omega (arith, size, is, fits));
     whole = goes.size;
@@ -236,26 +293,31 @@ module _ (m : Found) (count : ℕ) (ready : IsReadyMount m count) (image : Image
 
   run_on : (happen : RunsHappen) (stand : RunsStand) (lines : List Line) (before after : Outside) (result : Result (Unit {0}) RunFault) (faults : ℕ) (next : Between) → GoesWithMount m count before.seen image run volume
       → IfTold before.told (λ old. HasLostNone old → before.seen ≡ Some (image_now old)) → IfTold before.told (λ old. Leaves (held_now old) (image_now old))
-      → before.disk_faults ≤ faults → IsDiskAt after.told after.disk_faults next
-      → HasRun the_mounted lines (start_at before.told faults image commit) next before.taken after.taken result → IsRunOn lines before after result
-  run_on happen stand lines before after result faults next goes same left counted last ran =
-      let happened = happen the_mounted lines (start_at before.told faults image commit) next before.taken after.taken result ran in
+      → before.disk_faults ≤ faults → IsDiskAt after.told after.disk_faults next → TellsStill before.told after.told
+      → IfTold after.told (λ now. Leaves (held_now now) (image_now now)) → after.history ≡ next.scene.events
+      → HasRun the_mounted lines (start_at before.told faults image commit m.superblock.blocks) next before.taken after.taken result → IsRunOn lines before after result
+  run_on happen stand lines before after result faults next goes same left counted last tells left_now history ran =
+      let happened = happen the_mounted lines (start_at before.told faults image commit m.superblock.blocks) next before.taken after.taken result ran in
       record {
         mounted = the_mounted;
         first = commit;
         held = start_held before.told image;
-        start = start_at before.told faults image commit;
+        start = start_at before.told faults image commit m.superblock.blocks;
         next = next;
         mounts = told_is before.seen goes.mounts;
+        blocks = goes.blocks;
         coherent = goes.coherent;
         by = goes.has;
         begins = refl;
         first_told = first_told before.told;
         counted = counted;
         last_told = last;
+        tells = tells;
         ran = ran;
         happened = happened;
+        history = history;
         crash = crash stand before.seen before.told faults next goes same left happened;
+        settles = settles before.seen before.told after.told faults next goes same left left_now last.told tells happened;
       }
     where
       told_is : (seen : Option Image) → IfTold seen (λ told. (told ≡ image) × Mounts told volume) → IfTold seen (λ told. (told ≡ image) × Mounts told volume)
@@ -274,11 +336,11 @@ module _ (m : Found) (count : ℕ) (seen : Option Image) (told : Option Told) (s
   the_first = mount_commit chosen.0 m chosen.2
 
   pub the_start : ℕ → Between
-  the_start faults = start_at told faults chosen.0 the_first
+  the_start faults = start_at told faults chosen.0 the_first m.superblock.blocks
 
   pub starts_at : (faults : ℕ) → IsDiskAt told faults (the_start faults)
   unfolding the_start
-  starts_at faults = at_the_start told faults chosen.0 the_first
+  starts_at faults = at_the_start told faults chosen.0 the_first m.superblock.blocks
 
   pub starts_between : (Has : Mounted → Scene → Type 0) (blocks : ℕ) (marks : Marks) (device : Device) (faults : ℕ) → IsNewVolume Has blocks marks device m
       → ((mounted : Mounted) (held : Held) (first : Commit) → IsCoherentVolume mounted.volume → IsOrderly mounted (first_scene held first))
@@ -289,9 +351,10 @@ module _ (m : Found) (count : ℕ) (seen : Option Image) (told : Option Told) (s
       let held = start_held told chosen.0 in
       begins_between m count starts.ready chosen.0 chosen.1 chosen.2 Has blocks marks device seen told faults chosen.3 new starts.told_sizes (orderly the_volume held the_first chosen.3.coherent) (over the_volume held the_first)
 
-  pub starts_on : (happen : RunsHappen) (stand : RunsStand) (lines : List Line) (taken : Option (List ℕ)) (disk_faults sink_faults : ℕ) (after : Outside) (result : Result (Unit {0}) RunFault) (faults : ℕ) (next : Between)
-      → disk_faults ≤ faults → IsDiskAt after.told after.disk_faults next → HasRun the_volume lines (the_start faults) next taken after.taken result
-      → IsRunOn lines (outside seen told taken disk_faults sink_faults) after result
+  pub starts_on : (happen : RunsHappen) (stand : RunsStand) (lines : List Line) (taken : Option (List ℕ)) (disk_faults sink_faults : ℕ) (events : List Event) (after : Outside) (result : Result (Unit {0}) RunFault) (faults : ℕ) (next : Between)
+      → disk_faults ≤ faults → IsDiskAt after.told after.disk_faults next → TellsStill told after.told → IfTold after.told (λ now. Leaves (held_now now) (image_now now))
+      → after.history ≡ next.scene.events → HasRun the_volume lines (the_start faults) next taken after.taken result
+      → IsRunOn lines (outside seen told taken disk_faults sink_faults events) after result
   unfolding the_volume the_start the_first
-  starts_on happen stand lines taken disk_faults sink_faults after result faults next counted last ran =
-      run_on m count starts.ready chosen.0 chosen.1 chosen.2 happen stand lines (outside seen told taken disk_faults sink_faults) after result faults next chosen.3 starts.same starts.left counted last ran
+  starts_on happen stand lines taken disk_faults sink_faults events after result faults next counted last tells left_now history ran =
+      run_on m count starts.ready chosen.0 chosen.1 chosen.2 happen stand lines (outside seen told taken disk_faults sink_faults events) after result faults next chosen.3 starts.same starts.left counted last tells left_now history ran

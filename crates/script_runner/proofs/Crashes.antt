@@ -15,14 +15,15 @@ use Rattle.commit_images.proofs.Events.{each_stands, first_sound}
 use Rattle.disk_model.specs.Disk.{Held, IfTold, Leaves, Told, held_now, image_now}
 use Rattle.flat_model.specs.Volume.{Volume}
 use Rattle.flat_model.specs.declared.request.Line.{Line}
-use Rattle.flat_model.proofs.Maps.{some_same}
+use Rattle.flat_model.proofs.Maps.{some_none, some_same}
+use Rattle.volume_calls.specs.Between.{TellsStill}
 use Rattle.volume_image.specs.Stands.{AgreesOn, Stands, StandsBy}
 use Rattle.volume_image.proofs.Lists.{in_nothing}
 use Rattle.volume_image.proofs.Members.{in_map, map_in}
 use Rattle.volume_image.proofs.Standing.{reach_all_allowed, stands_local, stands_once}
 use Rattle.script_lines.specs.declared.fault.RunFault.{RunFault}
 use Rattle.script_runner.specs.declared.status.Status.{Status}
-use Rattle.script_runner.specs.Run.{AllRun, CrashMounts, DiskFailed, FindsWholeVolume, FromSource, HasLostNone, IsDiskSame, IsLinesAnswer, IsRunAnswer, IsRunOn, LacksMemory, MemoryLacked, Mounts, MountsThroughout, NoMemory, NotMounted, NotParsed, NotRead, Outside, Parsed, SinkFailed}
+use Rattle.script_runner.specs.Run.{AllRun, CrashMounts, DiskFailed, EndsSettled, FindsWholeVolume, FromSource, HasLostNone, IsUntouched, IsLinesAnswer, IsRunAnswer, IsRunOn, IsSettled, KeepsSettled, LacksMemory, MemoryLacked, Mounts, MountsThroughout, NoMemory, NotMounted, NotParsed, NotRead, Outside, Parsed, SinkFailed}
 use Rattle.script_runner.proofs.Beginning.{StandAt, holds_itself, moments_mount, mounted_by}
 
 -- ---- a disk that stays as it was
@@ -141,7 +142,7 @@ module _ (before after : Outside) (same : IfTold before.told (λ old. HasLostNon
   abbrev IsLeft : Type 0
   IsLeft = (old new : Told) → before.told ≡ Some old → after.told ≡ Some new → HasLostNone old → FindsWholeVolume old → (volume : Volume) → Stands (image_now old) volume → MountsThroughout volume old new
 
-  left_still : IsDiskSame before after → IsLeft
+  left_still : IsUntouched before after → IsLeft
   left_still still old new old_is new_is none finds volume stands =
       let one : old ≡ new = some_same old new (sym old_is ∙ sym still.told ∙ new_is) in
       subst (MountsThroughout volume old) one
@@ -165,12 +166,67 @@ module _ (before after : Outside) (same : IfTold before.told (λ old. HasLostNon
   left_by_run given rest _ _ (NotRead taken cut still) = left_still still
   left_by_run given rest _ _ (LacksMemory some still) = left_still still
 
-told_crash : (told now : Option Told) → ((old new : Told) → told ≡ Some old → now ≡ Some new → HasLostNone old → FindsWholeVolume old → (volume : Volume) → Stands (image_now old) volume → MountsThroughout volume old new)
+-- ---- whether the record is told at the end
+
+tells_now : (before after : Option Told) → after ≡ before → TellsStill before after
+tells_now None None same = tt
+tells_now None (Some now) same = absurd (some_none now same)
+tells_now (Some told) None same = absurd (some_none told (sym same))
+tells_now (Some told) (Some now) same = tt
+
+told_by_lines : (before after : Outside) (lines : List Line) (status : Status) (text : List ℕ) → IsLinesAnswer lines before after status text → TellsStill before.told after.told
+told_by_lines before after lines _ _ (AllRun run) = run.tells
+told_by_lines before after lines _ _ (SinkFailed run risen) = run.tells
+told_by_lines before after lines _ _ (MemoryLacked taken run front) = run.tells
+told_by_lines before after lines _ _ (NotMounted fault found still) = tells_now before.told after.told still.told
+told_by_lines before after lines _ _ (DiskFailed risen still) = tells_now before.told after.told still.told
+told_by_lines before after lines _ _ (NoMemory still) = tells_now before.told after.told still.told
+
+told_by_run : (given rest : FromSource) (before after : Outside) (status : Status) (text : List ℕ) → IsRunAnswer given rest before after status text → TellsStill before.told after.told
+told_by_run given rest before after _ _ (Parsed status text bytes lines read script answer) = told_by_lines before after lines status text answer
+told_by_run given rest before after _ _ (NotParsed bytes line kind read bad still) = tells_now before.told after.told still.told
+told_by_run given rest before after _ _ (NotRead taken cut still) = tells_now before.told after.told still.told
+told_by_run given rest before after _ _ (LacksMemory some still) = tells_now before.told after.told still.told
+
+told_crash : (told now : Option Told) → TellsStill told now
+    → ((old new : Told) → told ≡ Some old → now ≡ Some new → HasLostNone old → FindsWholeVolume old → (volume : Volume) → Stands (image_now old) volume → MountsThroughout volume old new)
     → CrashMounts told now
-told_crash None now has = tt
-told_crash (Some old) None has = λ none finds volume stands. tt
-told_crash (Some old) (Some new) has = λ none finds volume stands. has old new refl refl none finds volume stands
+told_crash None None tells has = tt
+told_crash None (Some new) tells has = absurd tells
+told_crash (Some old) None tells has = absurd tells
+told_crash (Some old) (Some new) tells has = λ settled volume stands. has old new refl refl settled.none_lost settled.finds volume stands
 
 pub run_crash : (given rest : FromSource) (before after : Outside) (status : Status) (text : List ℕ) → IfTold before.told (λ old. HasLostNone old → before.seen ≡ Some (image_now old))
     → IfTold before.told (λ old. Leaves (held_now old) (image_now old)) → IsRunAnswer given rest before after status text → CrashMounts before.told after.told
-run_crash given rest before after status text same left answer = told_crash before.told after.told (left_by_run before after same left given rest status text answer)
+run_crash given rest before after status text same left answer =
+    told_crash before.told after.told (told_by_run given rest before after status text answer) (left_by_run before after same left given rest status text answer)
+
+-- ---- whether a next run may begin
+
+-- a disk whose record didn't go on is as settled as before
+pub settled_still : (told : Option Told) → KeepsSettled told told
+settled_still None = tt
+settled_still (Some told) = λ settled none reads. settled
+
+untouched_settled : (before after : Option Told) → after ≡ before → KeepsSettled before after
+untouched_settled before after same = subst (KeepsSettled before) (sym same) (settled_still before)
+
+run_keeps : (before after : Option Told) (last : Told) → IfTold after (λ now. now ≡ last) → TellsStill before after → IfTold before (λ old. IsSettled old → EndsSettled last) → KeepsSettled before after
+run_keeps None None last is tells settles = tt
+run_keeps None (Some now) last is tells settles = absurd tells
+run_keeps (Some old) None last is tells settles = absurd tells
+run_keeps (Some old) (Some now) last is tells settles = λ settled. subst EndsSettled (sym is) (settles settled)
+
+settled_by_lines : (before after : Outside) (lines : List Line) (status : Status) (text : List ℕ) → IsLinesAnswer lines before after status text → KeepsSettled before.told after.told
+settled_by_lines before after lines _ _ (AllRun run) = run_keeps before.told after.told run.next.told run.last_told.told run.tells run.settles
+settled_by_lines before after lines _ _ (SinkFailed run risen) = run_keeps before.told after.told run.next.told run.last_told.told run.tells run.settles
+settled_by_lines before after lines _ _ (MemoryLacked taken run front) = run_keeps before.told after.told run.next.told run.last_told.told run.tells run.settles
+settled_by_lines before after lines _ _ (NotMounted fault found still) = untouched_settled before.told after.told still.told
+settled_by_lines before after lines _ _ (DiskFailed risen still) = untouched_settled before.told after.told still.told
+settled_by_lines before after lines _ _ (NoMemory still) = untouched_settled before.told after.told still.told
+
+pub run_settled : (given rest : FromSource) (before after : Outside) (status : Status) (text : List ℕ) → IsRunAnswer given rest before after status text → KeepsSettled before.told after.told
+run_settled given rest before after _ _ (Parsed status text bytes lines read script answer) = settled_by_lines before after lines status text answer
+run_settled given rest before after _ _ (NotParsed bytes line kind read bad still) = untouched_settled before.told after.told still.told
+run_settled given rest before after _ _ (NotRead taken cut still) = untouched_settled before.told after.told still.told
+run_settled given rest before after _ _ (LacksMemory some still) = untouched_settled before.told after.told still.told

@@ -5,6 +5,7 @@ use Rattle.std.proofs.lemmas.List.{get_or_append_left, get_or-map, length-append
 use Rattle.std.proofs.lemmas.List.Elements.{All-contains, Contains-append_cases}
 use Rattle.std.proofs.lemmas.Option.{slice_get-get_or}
 use Rattle.blk_base.specs.Bytes.{Image}
+use Rattle.blk_base.specs.Superblock.{SuperValue}
 use Rattle.block_table.specs.Slot.{BlockSlot, free_slot}
 use Rattle.block_table.specs.Table.{Table}
 use Rattle.block_table.specs.TreeIn.{IsTaken, block_at}
@@ -27,7 +28,7 @@ use Rattle.volume_image.specs.Stands.{Stands, StandsBy}
 use Rattle.volume_image.proofs.Members.{in_map}
 use Rattle.volume_seal.specs.Sealed.{states_reach}
 use Rattle.volume_seal.proofs.States.{all_taken}
-use Rattle.script_runner.specs.Run.{Mounts}
+use Rattle.script_runner.specs.Run.{HasBlocks, Mounts}
 
 -- ---- an image of the table's blocks
 
@@ -80,7 +81,7 @@ module _ (m : Found) (count : ℕ) (ready : IsReadyMount m count) where
 -- ---- the image that is chosen
 
 -- An image of so many blocks goes with a volume that was mounted: it has the superblock and all that it reaches; and where the disk tells its image, it is this one,
--- and mounts to the volume.
+-- mounts to the volume, and has as many blocks as the superblock that was read says.
 pub record GoesWithMount (m : Found) (count : ℕ) (seen : Option Image) (image : Image) (run : RunVolume) (volume : Volume) : Type 0 where
   pub size : length image ≡ count
   pub is_volume : volume_of run ≡ volume
@@ -89,6 +90,7 @@ pub record GoesWithMount (m : Found) (count : ℕ) (seen : Option Image) (image 
   pub of_mount : IsMountOf image m run (mount_commit image m volume)
   pub has : HasCommit image (mount_commit image m volume)
   pub mounts : IfTold seen (λ told. (told ≡ image) × Mounts told volume)
+  pub blocks : IfTold seen (λ told. HasBlocks told m.superblock.blocks)
   pub by_reach : IfTold seen (λ told. StandsBy told volume (mount_reach m))
   pub stands : IfTold seen (λ told. StandsFor Stands count (mount_commit image m volume))
 
@@ -106,6 +108,7 @@ untold m count ready =
       of_mount = record { on_image = long; gives = ready.given; bytes = bytes; blocks = refl };
       has = has_commit m count ready image ready.run (volume_of ready.run) long ready.given bytes;
       mounts = tt;
+      blocks = tt;
       by_reach = tt;
       stands = tt;
     }
@@ -124,6 +127,7 @@ told m count image ready size is =
       of_mount = it_is_of_the_mount image m here is;
       has = the_image_has_it image m here is;
       mounts = (refl, record { stands = record { reach = mount_reach m; by_reach = is.stands }; found = is.found; no_fault = is.standing; no_log = is.no_log; gives = refl });
+      blocks = (is.found, is.standing, ap (λ (super : SuperValue). super.blocks) is.superblock);
       by_reach = is.stands;
       stands = subst (λ (n : ℕ). StandsFor Stands n (mount_commit image m volume)) size (it_stands image m here is);
     }

@@ -6,6 +6,7 @@ use Rattle.blk_base.specs.Causes.{HasRisen}
 use Rattle.tree_mount.specs.declared.fault.MountFault.{MountFault}
 use Rattle.tree_mount.specs.declared.fault.MountFault.TheVariants.{Super, Log, Load, Item, Incoherent, NoRoom, Disk, OutOfMemory}
 use Rattle.tree_mount.specs.Faults.{IsToldFault}
+use Rattle.commit_history.specs.declared.event.Event.{Event}
 use Rattle.commit_images.specs.Scene.{Mounted}
 use Rattle.volume_image.specs.Tree.{Image}
 use Rattle.flat_model.specs.declared.request.Line.{Line}
@@ -24,7 +25,7 @@ use Rattle.script_runner.specs.declared.status.Status.{Status}
 use Rattle.script_runner.specs.declared.status.Status.TheVariants.{Done, BadScript, WriteFault, Memory}
 use Rattle.script_runner.specs.declared.status.Status.TheVariants as status_kinds
 use Rattle.script_runner.specs.Commands.{HasVolume, IsOfScript, IsFaultOf, IsPut, answer_line, status_of}
-use Rattle.script_runner.specs.Run.{FromSource, HasLinesAnswer, HasRunAnswer, IsDiskSame, IsLinesAnswer, AllRun, SinkFailed, MemoryLacked, NotMounted, DiskFailed, NoMemory, IsRunAnswer, Parsed, NotParsed, NotRead, LacksMemory, IsRead, IsRunOn, Outside, outside, status_of_script, status_of_source, text_of}
+use Rattle.script_runner.specs.Run.{FromSource, HasLinesAnswer, HasRunAnswer, IsUntouched, IsLinesAnswer, AllRun, SinkFailed, MemoryLacked, NotMounted, DiskFailed, NoMemory, IsRunAnswer, Parsed, NotParsed, NotRead, LacksMemory, IsRead, IsRunOn, Outside, outside, status_of_script, status_of_source, text_of}
 use Rattle.script_runner.proofs.AnswerLemmas.{not_refused, told_whole}
 use Rattle.io_edge.proofs.Sinks.{Takes-joins, TakesFront-behind}
 
@@ -77,13 +78,13 @@ pub told_line : (status : Status) (taken taken_now : Option (List ℕ)) (sink si
 told_line status taken taken_now sink sink_now other front whole = record { done = λ is. absurd (other is); front = front; whole = whole }
 
 -- no memory for a volume that was mounted
-pub told_no_memory : (lines : List Line) (before after : Outside) → IsDiskSame before after
+pub told_no_memory : (lines : List Line) (before after : Outside) → IsUntouched before after
     → TakesFront before.taken (answer_line Memory) after.taken → ((HasRisen before.sink_faults after.sink_faults → ⊥) → Takes before.taken (answer_line Memory) after.taken) → HasLinesAnswer lines before after Memory
 told_no_memory lines before after same front whole =
     (answer_line Memory, told_line Memory before.taken after.taken before.sink_faults after.sink_faults (λ is. cc) front whole, NoMemory same)
 
 -- a volume that can't be mounted
-pub not_mounted : (lines : List Line) (before after : Outside) (fault : MountFault) → IsToldFault before.seen fault → (fault ≡ Disk → HasRisen before.disk_faults after.disk_faults) → IsDiskSame before after
+pub not_mounted : (lines : List Line) (before after : Outside) (fault : MountFault) → IsToldFault before.seen fault → (fault ≡ Disk → HasRisen before.disk_faults after.disk_faults) → IsUntouched before after
     → IsLinesAnswer lines before after (status_of fault) (answer_line (status_of fault))
 not_mounted lines before after (Super fault) told cause same = NotMounted (Super fault) (record { of_image = told; not_disk = λ is. cc; not_memory = λ is. cc }) same
 not_mounted lines before after Log told cause same = NotMounted Log (record { of_image = told; not_disk = λ is. cc; not_memory = λ is. cc }) same
@@ -105,7 +106,7 @@ not_done Disk is = cc
 not_done OutOfMemory is = cc
 
 -- and its line was told
-pub told_unmounted : (lines : List Line) (before after : Outside) (fault : MountFault) (status : Status) → status ≡ status_of fault → IsToldFault before.seen fault → (fault ≡ Disk → HasRisen before.disk_faults after.disk_faults) → IsDiskSame before after
+pub told_unmounted : (lines : List Line) (before after : Outside) (fault : MountFault) (status : Status) → status ≡ status_of fault → IsToldFault before.seen fault → (fault ≡ Disk → HasRisen before.disk_faults after.disk_faults) → IsUntouched before after
     → TakesFront before.taken (answer_line (status_of fault)) after.taken → ((HasRisen before.sink_faults after.sink_faults → ⊥) → Takes before.taken (answer_line (status_of fault)) after.taken) → HasLinesAnswer lines before after status
 told_unmounted lines before after fault status is told cause same front whole =
     subst (HasLinesAnswer lines before after) (sym is)
@@ -116,7 +117,7 @@ pub told_parsed : (given left : FromSource) (before after : Outside) (status : S
 told_parsed given left before after status bytes lines read script told = (told.0, told.1, Parsed status told.0 bytes lines read script told.2)
 
 -- a script that has a fault, or for which memory lacked
-pub told_unparsed : (given left : FromSource) (before after : Outside) (status : Status) (bytes : List ℕ) (fault : ScriptFault) → status ≡ status_of_script fault → IsRead given left bytes → kinds.IsFaultOf fault (script_of bytes) → IsDiskSame before after
+pub told_unparsed : (given left : FromSource) (before after : Outside) (status : Status) (bytes : List ℕ) (fault : ScriptFault) → status ≡ status_of_script fault → IsRead given left bytes → kinds.IsFaultOf fault (script_of bytes) → IsUntouched before after
     → TakesFront before.taken (answer_line (status_of_script fault)) after.taken → ((HasRisen before.sink_faults after.sink_faults → ⊥) → Takes before.taken (answer_line (status_of_script fault)) after.taken) → HasRunAnswer given left before after status
 told_unparsed given left before after status bytes (script_faults.Bad line kind) is read bad same front whole =
     subst (HasRunAnswer given left before after) (sym is)
@@ -127,7 +128,7 @@ told_unparsed given left before after status bytes script_faults.OutOfMemory is 
 
 -- a source that wasn't read
 pub told_unread : (given left : FromSource) (before after : Outside) (status : Status) (fault : ReadFault) → status ≡ status_of_source fault
-    → (fault ≡ source_faults.OutOfMemory → HasGivenSome given.left left.left) → ((taken : ℕ) → fault ≡ source_faults.Failed taken → IsCutShort given.left left.left given.faults left.faults taken) → IsDiskSame before after
+    → (fault ≡ source_faults.OutOfMemory → HasGivenSome given.left left.left) → ((taken : ℕ) → fault ≡ source_faults.Failed taken → IsCutShort given.left left.left given.faults left.faults taken) → IsUntouched before after
     → TakesFront before.taken (answer_line (status_of_source fault)) after.taken → ((HasRisen before.sink_faults after.sink_faults → ⊥) → Takes before.taken (answer_line (status_of_source fault)) after.taken) → HasRunAnswer given left before after status
 told_unread given left before after status (source_faults.Failed taken) is some cut same front whole =
     subst (HasRunAnswer given left before after) (sym is)
@@ -174,7 +175,7 @@ run_complete_at given left before after _ _ image (NotParsed bytes line kind rea
 run_complete_at given left before after _ _ image (NotRead taken cut same) seen it disk sink = inr (inr tt)
 run_complete_at given left before after _ _ image (LacksMemory some same) seen it disk sink = inr (inl refl)
 
-pub run_complete : (given left : FromSource) (seen : Option Image) (told : Option Told) (taken : Option (List ℕ)) (disk_faults sink_faults : ℕ) (after : Outside) (status : Status) (text : List ℕ) → IsRunAnswer given left (outside seen told taken disk_faults sink_faults) after status text
+pub run_complete : (given left : FromSource) (seen : Option Image) (told : Option Told) (taken : Option (List ℕ)) (disk_faults sink_faults : ℕ) (history : List Event) (after : Outside) (status : Status) (text : List ℕ) → IsRunAnswer given left (outside seen told taken disk_faults sink_faults history) after status text
     → IfTold seen (λ image. HasVolume image → (HasRisen disk_faults after.disk_faults → ⊥) → (HasRisen sink_faults after.sink_faults → ⊥) → (status ≡ Done) ⊎ (status ≡ Memory) ⊎ IsOfScript status)
-run_complete given left None told taken disk_faults sink_faults after status text answer = tt
-run_complete given left (Some image) told taken disk_faults sink_faults after status text answer = λ it disk sink. run_complete_at given left (outside (Some image) told taken disk_faults sink_faults) after status text image answer refl it disk sink
+run_complete given left None told taken disk_faults sink_faults history after status text answer = tt
+run_complete given left (Some image) told taken disk_faults sink_faults history after status text answer = λ it disk sink. run_complete_at given left (outside (Some image) told taken disk_faults sink_faults history) after status text image answer refl it disk sink

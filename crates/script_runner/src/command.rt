@@ -1,10 +1,10 @@
 ghost use Rattle.std.specs.Prelude.{◌≡◌, ◌≤◌, ◌⊎◌, ◌↔◌, ◌∷◌, [], ℕ, List, ◌≢◌, OnOk, OnErr, IsTrue};
-ghost use Rattle.disk_model.specs.Disk.{IfTold, known};
+ghost use Rattle.disk_model.specs.Disk.{IfBoth, IfTold, known};
 ghost use Rattle.io_edge.specs.Edge.{Takes, TakesFront, HasCause};
 ghost use Rattle.blk_base.specs.Causes.{HasRisen};
 ghost use Rattle.tree_mount.specs.declared.fault.MountFault.{MountFault};
 ghost use Rattle.script_text.specs.declared.fault.ScriptKind.{ScriptKind};
-ghost use Rattle.script_runner.specs.Run.{CrashMounts, HasRunAnswer, outside};
+ghost use Rattle.script_runner.specs.Run.{CrashMounts, HasLostNone, HasRunAnswer, IsSettled, KeepsSettled, outside};
 ghost use Rattle.script_runner.specs.Commands.{IsOfMkfs, AreInRange, HasVolume, IsAnyMkfs, IsCommand, IsDone, IsFaultOf, IsInRange, IsList, IsOfScript};
 ghost use Rattle.script_runner.specs.Commands.{IsOutOfRange, IsRun, IsTextOf, IsPut, bytes_of, made_line};
 ghost use Rattle.volume_mkfs.specs.Made.{CrashLeaves};
@@ -14,10 +14,11 @@ use crate::Status;
 use crate::answer::answer;
 use crate::list::list;
 use crate::request::Request;
-use crate::run::run;
+use crate::run::run_source;
 use crate::text::put_made;
 use disk_model::Disk;
 use io_edge::{Sink, SinkFailed, Source};
+use run_history::Run;
 use std::alloc::Global;
 use volume_mkfs::{MkfsFault, mkfs};
 
@@ -29,14 +30,18 @@ use volume_mkfs::{MkfsFault, mkfs};
 /// to its end, mounts the volume and runs the script: it writes a line for each call that has finished, and then `done N`,
 /// with N the number of calls. Other words are no command. Every other answer but `WriteFault` has a line of its own. The
 /// causes are looked for in this order: `Usage`, `MkfsRange`, the source, `BadScript`, the volume, and then the calls of a
-/// script with their lines; memory stands where it was wanted. A script with a fault leaves the disk without a call (own).
+/// script with their lines; memory stands where it was wanted. A script with a fault leaves the disk without a call. `run` is
+/// empty at first, and then has the events of the script that was run, in their order (own).
 pub fn drive<S: Source, K: Sink, D: Disk>(
     alloc: Global,
     words: &[String],
     from: &mut S,
     to: &mut K,
     disk: &mut D,
+    run: &mut Run,
 ) -> Status
+    requires empty { run.old.events ≡ [] }
+
     // Which answer comes.
     ensures usage { (result ≡ Status.Usage) ↔ (IsCommand (bytes_of words.now) → ⊥) }
     ensures range { (result ≡ Status.MkfsRange) ↔ IsOutOfRange (bytes_of words.now) (D.count disk.old) }
@@ -68,16 +73,20 @@ pub fn drive<S: Source, K: Sink, D: Disk>(
     // What a run of a script answers, what it writes, and what a crash at any moment leaves.
     ensures run { IsRun (bytes_of words.now) → HasRunAnswer
         (record { left = S.left from.old; faults = S.faults from.old }) (record { left = S.left from.new; faults = S.faults from.new })
-        (outside (known (D.seen disk.old) (D.lost disk.old)) (D.told disk.old) (K.taken to.old) (D.faults disk.old) (K.faults to.old))
-        (outside (known (D.seen disk.new) (D.lost disk.new)) (D.told disk.new) (K.taken to.new) (D.faults disk.new) (K.faults to.new)) result }
+        (outside (known (D.seen disk.old) (D.lost disk.old)) (D.told disk.old) (K.taken to.old) (D.faults disk.old) (K.faults to.old) run.old.events)
+        (outside (known (D.seen disk.new) (D.lost disk.new)) (D.told disk.new) (K.taken to.new) (D.faults disk.new) (K.faults to.new) run.new.events) result }
 
-    // Where the disk stands for a volume when a run begins, no block is lost then, and a crash would leave the superblock that is
-    // read and all that it reaches: at every moment each image that a crash may leave mounts to a volume that survives what
-    // happened until then.
+    // Where the disk stands for a volume and is settled when a run begins, at every moment each image that a crash may leave mounts
+    // to a volume that survives what happened until then.
     ensures run_crash { IsRun (bytes_of words.now) → CrashMounts (D.told disk.old) (D.told disk.new) }
 
-    // What is on the disk once a volume was made, and what a crash at any moment leaves.
+    // No event comes but in a run; and no other command than `mkfs` leaves a settled disk unsettled without a sign of it.
+    ensures no_event { (IsRun (bytes_of words.now) → ⊥) → run.new ≡ run.old }
+    ensures keeps_settled { (IsAnyMkfs (bytes_of words.now) → ⊥) → KeepsSettled (D.told disk.old) (D.told disk.new) }
+
+    // What is on the disk once a volume was made, that a run may begin there, and what a crash at any moment leaves.
     ensures made { IsAnyMkfs (bytes_of words.now) → IsDone result → IfTold (D.seen disk.new) (HasVolumeAsked (bytes_of words.now)) }
+    ensures settled { IsAnyMkfs (bytes_of words.now) → IsDone result → IfBoth (D.told disk.old) (D.told disk.new) (λ old new. HasLostNone old → IsSettled new) }
     ensures crash { (IsRun (bytes_of words.now) → ⊥) → CrashLeaves (D.told disk.old) (D.told disk.new) (IsOldOrAsked (bytes_of words.now)) }
 
     ensures size { D.count disk.new ≡ D.count disk.old }
@@ -89,7 +98,7 @@ pub fn drive<S: Source, K: Sink, D: Disk>(
         return list(alloc, to, disk);
     }
     if is_only(words, "run") {
-        return run(alloc, from, to, disk);
+        return run_source(alloc, from, to, disk, run);
     }
     let status = execute(alloc, words, disk);
     match status {
@@ -117,6 +126,7 @@ fn execute<D: Disk>(alloc: Global, words: &[String], disk: &mut D) -> Status
     ensures no_other { IsOfMkfs result }
     ensures untouched { (result ≡ Status.Usage) ⊎ (result ≡ Status.MkfsRange) ⊎ (result ≡ Status.Memory) → disk.new ≡ disk.old }
     ensures made { (result ≡ Status.Done) → IfTold (D.seen disk.new) (HasVolumeAsked (bytes_of words.now)) }
+    ensures settled { (result ≡ Status.Done) → IfBoth (D.told disk.old) (D.told disk.new) (λ old new. HasLostNone old → IsSettled new) }
     ensures crash { CrashLeaves (D.told disk.old) (D.told disk.new) (IsOldOrAsked (bytes_of words.now)) }
     ensures size { D.count disk.new ≡ D.count disk.old }
     ensures counted { D.faults disk.old ≤ D.faults disk.new }
@@ -136,6 +146,7 @@ fn make<D: Disk>(alloc: Global, fsid: &str, blocks: &str, subs: &str, disk: &mut
     ensures disk_fault { (result ≡ Status.DiskFault) → HasRisen (D.faults disk.old) (D.faults disk.new) }
     ensures untouched { (result ≡ Status.MkfsRange) ⊎ (result ≡ Status.Memory) → disk.new ≡ disk.old }
     ensures made { (result ≡ Status.Done) → IfTold (D.seen disk.new) (HasVolumeOf fsid.now blocks.now subs.now) }
+    ensures settled { (result ≡ Status.Done) → IfBoth (D.told disk.old) (D.told disk.new) (λ old new. HasLostNone old → IsSettled new) }
     ensures crash { CrashLeaves (D.told disk.old) (D.told disk.new) (IsOldOrMade subs.now) }
     ensures size { D.count disk.new ≡ D.count disk.old }
     ensures counted { D.faults disk.old ≤ D.faults disk.new }

@@ -14,4 +14,5 @@ mod words;
 
 pub use command::drive;
 pub use request::blocks_asked;
+pub use run_history::Run;
 pub use status::Status;

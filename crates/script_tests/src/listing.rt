@@ -116,3 +116,33 @@ fn other_images_are_named(rt: HostRuntime) -> Result<(), Fail> {
     }
     Ok(())
 }
+
+#[test]
+fn each_fault_of_a_superblock_is_named(rt: HostRuntime) -> Result<(), Fail> {
+    let alloc = rt.alloc();
+    for (place, value, text) in [
+        (0x30, 0, "volume super foreign\n"),
+        (0x58, 69632, "volume super foreign\n"),
+        (0x88, 2, "volume super foreign\n"),
+        (0xa0, 1, "volume super foreign\n"),
+        (0x70, 4095 * 4096, "volume super size\n"),
+        (0x70, 4096 * 4096 + 1, "volume super size\n"),
+        (0x50, 4096, "volume super root\n"),
+        (0x50, 69633, "volume super root\n"),
+        (0x60, 77824, "volume log\n"),
+    ] {
+        let mut block = superblock(alloc)?;
+        put_u64(&mut block, place, value);
+        assert_eq!(rt; listed(alloc, &mut block)?.bytes(), text.as_bytes());
+    }
+    for (place, value, text) in [
+        (0xc4, 1, "volume super foreign\n"),
+        (0xc6, 8, "volume super level\n"),
+        (0xc8, 1, "volume super loglevel\n"),
+    ] {
+        let mut block = superblock(alloc)?;
+        block[place] = value;
+        assert_eq!(rt; listed(alloc, &mut block)?.bytes(), text.as_bytes());
+    }
+    Ok(())
+}

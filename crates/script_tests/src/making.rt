@@ -1,7 +1,7 @@
 use disk_memory::ListDisk;
 use disk_model::Disk;
 use io_edge::{MemorySink, MemorySource};
-use script_runner::drive;
+use script_runner::{Run, drive};
 use std::alloc::Global;
 use std::test::Fail;
 
@@ -20,7 +20,8 @@ pub fn run<D: Disk>(
         command.push(String::from_str(alloc, word)?)?;
     }
     let mut from = MemorySource::new(alloc, b"", &[])?;
-    Ok(drive(alloc, &command, &mut from, to, disk).code())
+    let mut run = Run::new(alloc);
+    Ok(drive(alloc, &command, &mut from, to, disk, &mut run).code())
 }
 
 /// The exit status of a command on a disk of so many blocks that doesn't fail, and the number of its device calls.

@@ -1,6 +1,6 @@
 use blk_base::{
-    Addr, Block, BlockFault, ItemFault, Key, SuperFault, crc32c, name_hash, put_bytes, put_u16,
-    put_u32, put_u64,
+    Addr, Block, BlockFault, Ino, ItemFault, Key, SubId, SuperFault, crc32c, name_hash, put_bytes,
+    put_u16, put_u32, put_u64,
 };
 use disk_memory::ListDisk;
 use item_inode::InodeItem;
@@ -138,6 +138,7 @@ enum Wrong {
     Nothing,
     Log,
     Root,
+    NoRoots,
     Sub,
     Super,
     Disk,
@@ -159,6 +160,9 @@ fn disk(alloc: Global, wrong: Wrong) -> Result<ListDisk<4096>, Fail> {
     if matches!(wrong, Wrong::Root) {
         put_u64(&mut block, 101, 6);
         seal(&mut block, 69632, 1, 1);
+    }
+    if matches!(wrong, Wrong::NoRoots) {
+        seal(&mut block, 69632, 1, 0);
     }
     disk.put(17, &block)?;
     block = [0; 4096];
@@ -198,6 +202,7 @@ fn names_what_is_wrong(rt: HostRuntime) -> Result<(), Fail> {
             Wrong::Root,
             MountFault::Item(Addr(69632), other, ItemFault::Kind),
         ),
+        (Wrong::NoRoots, MountFault::Incoherent(SubId(5), Ino(256))),
         (Wrong::Sub, MountFault::Load(broken)),
         (Wrong::Super, MountFault::Super(SuperFault::Magic)),
         (Wrong::Disk, MountFault::Disk),
@@ -206,5 +211,72 @@ fn names_what_is_wrong(rt: HostRuntime) -> Result<(), Fail> {
         let mut disk = disk(rt.alloc(), wrong)?;
         assert_eq!(rt; mount(rt.alloc(), &mut disk).err(), Some(fault));
     }
+    Ok(())
+}
+
+/// The id of a subvolume by its place among root items, from 0.
+fn id_at(place: u64) -> u64 {
+    match place {
+        0 => 5,
+        _ => place.saturating_add(255),
+    }
+}
+
+/// Puts a leaf of root items, those of so many subvolumes from a place on, at this byte address.
+fn put_roots(block: &mut Block, first: u64, count: u32, at: u64) -> Result<(), Fail> {
+    let mut end = 3995;
+    for place in 0..count {
+        let id = id_at(first.saturating_add(u64::from(place)));
+        end = put_item(block, place as usize, (id, 132, 0), &[0; 439], end)?;
+    }
+    seal(block, at, 1, count);
+    Ok(())
+}
+
+/// Puts a pointer to a block of root items, which begins with this subvolume's, into a node.
+fn put_pointer(block: &mut Block, place: usize, id: u64, at: u64) -> Result<(), Fail> {
+    if place >= 3 {
+        return Err(Fail::from("no place"));
+    }
+    let from = 101 + 33 * place;
+    put_u64(block, from, id);
+    block[from + 8] = 132;
+    put_u64(block, from + 17, at);
+    put_u64(block, from + 25, 7);
+    Ok(())
+}
+
+/// A disk whose root tree has the items of 17 subvolumes, in three leaves.
+fn disk_of_17(alloc: Global) -> Result<ListDisk<4096>, Fail> {
+    let mut disk = ListDisk::<4096>::new(alloc, 0);
+    let mut block = [0; 4096];
+    put_super(&mut block, Addr(0));
+    block[0xc6] = 1;
+    let sum = crc32c(&block[32..]);
+    put_u32(&mut block, 0, sum);
+    disk.put(16, &block)?;
+    let mut node = [0; 4096];
+    for (place, first, count, at) in [(0, 0, 8, 94208), (1, 8, 8, 98304), (2, 16, 1, 102400)] {
+        let mut leaf = [0; 4096];
+        put_roots(&mut leaf, first, count, at)?;
+        disk.put(23 + place, &leaf)?;
+        put_pointer(&mut node, place as usize, id_at(first), at)?;
+    }
+    node[100] = 1;
+    seal(&mut node, 69632, 1, 3);
+    disk.put(17, &node)?;
+    Ok(disk)
+}
+
+#[test]
+fn a_17th_subvolume_is_none(rt: HostRuntime) -> Result<(), Fail> {
+    let mut disk = disk_of_17(rt.alloc())?;
+    let key = Key {
+        objectid: 271,
+        kind: 132,
+        offset: 0,
+    };
+    let fault = MountFault::Item(Addr(102400), key, ItemFault::Kind);
+    assert_eq!(rt; mount(rt.alloc(), &mut disk).err(), Some(fault));
     Ok(())
 }

@@ -1,8 +1,9 @@
-use crate::making::FSID;
-use disk_memory::MemoryDisk;
+use crate::making::{self, FSID};
+use commit_history::Event;
+use disk_memory::{MemoryDisk, NeverFails};
 use disk_model::Disk;
 use io_edge::{MemorySink, MemorySource};
-use script_runner::{Status, drive};
+use script_runner::{Run, Status, drive};
 use std::alloc::Global;
 use std::test::Fail;
 
@@ -26,7 +27,8 @@ fn command<D: Disk>(
     let mut words = Vec::new(alloc);
     words.push(String::from_str(alloc, word)?)?;
     let mut from = MemorySource::new(alloc, script, &[])?;
-    Ok(drive(alloc, &words, &mut from, to, disk))
+    let mut run = Run::new(alloc);
+    Ok(drive(alloc, &words, &mut from, to, disk, &mut run))
 }
 
 /// The answer to a script, and its text.
@@ -52,7 +54,8 @@ fn made_of(alloc: Global, subs: &str, fails: &[u64]) -> Result<MemoryDisk, Fail>
     }
     let mut from = MemorySource::new(alloc, b"", &[])?;
     let mut to = MemorySink::new(alloc, &[])?;
-    drive(alloc, &words, &mut from, &mut to, &mut disk);
+    let mut run = Run::new(alloc);
+    drive(alloc, &words, &mut from, &mut to, &mut disk, &mut run);
     Ok(disk)
 }
 
@@ -380,7 +383,8 @@ fn at_the_edge(
     let mut disk = made(alloc, calls)?;
     let mut from = MemorySource::new(alloc, SYNCED, reads)?;
     let mut to = MemorySink::new(alloc, writes)?;
-    let status = drive(alloc, &words, &mut from, &mut to, &mut disk);
+    let mut run = Run::new(alloc);
+    let status = drive(alloc, &words, &mut from, &mut to, &mut disk, &mut run);
     Ok((status.code(), to))
 }
 
@@ -394,5 +398,113 @@ fn each_edge_has_its_fault(rt: HostRuntime) -> Result<(), Fail> {
     let (status, text) = at_the_edge(rt.alloc(), &[], &[1], ALL)?;
     assert_eq!(rt; status, 6);
     assert_eq!(rt; text.bytes(), b"".as_slice());
+    Ok(())
+}
+
+/// The events of a run of `SYNCED`, each as a letter.
+fn history(alloc: Global) -> Result<Vec<u8>, Fail> {
+    let mut words = Vec::new(alloc);
+    words.push(String::from_str(alloc, "run")?)?;
+    let mut disk = made(alloc, ALL)?;
+    let mut from = MemorySource::new(alloc, SYNCED, &[])?;
+    let mut to = MemorySink::new(alloc, &[])?;
+    let mut run = Run::new(alloc);
+    drive(alloc, &words, &mut from, &mut to, &mut disk, &mut run);
+    let mut letters = Vec::new(alloc);
+    for place in 0..run.len() {
+        letters.push(match run.event(place) {
+            Event::Op { again: false, .. } => b'o',
+            Event::Ask { caller: 1 } => b'a',
+            Event::SealFull { caller: 1 } => b's',
+            Event::FullDone { caller: 1 } => b'd',
+            _ => b'-',
+        })?;
+    }
+    Ok(letters)
+}
+
+#[test]
+fn a_run_leaves_its_history(rt: HostRuntime) -> Result<(), Fail> {
+    let letters = history(rt.alloc())?;
+    assert_eq!(rt; letters.as_slice(), b"ooasd".as_slice());
+    Ok(())
+}
+
+/// The text of a run that makes a file, fills it so many times with 65,536 bytes behind its end, and goes on so.
+fn filled(alloc: Global, fills: u64, rest: &str) -> Result<MemorySink, Fail> {
+    let mut script = String::from_str(alloc, "1 create /a\n")?;
+    for fill in 0..fills {
+        let line = format!(in alloc; "1 fill /a {} 65536 7\n", fill.saturating_mul(65536))?;
+        script.push_str(line.as_str())?;
+    }
+    script.push_str(rest)?;
+    let mut disk = NeverFails::new(alloc, 4096)?;
+    let mut text = MemorySink::new(alloc, &[])?;
+    making::run(alloc, &["mkfs", FSID, "4096", "1"], &mut disk, &mut text)?;
+    let (_, text) = run(alloc, script.as_bytes(), &mut disk)?;
+    Ok(text)
+}
+
+#[test]
+fn a_full_volume_refuses_and_then_goes_on(rt: HostRuntime) -> Result<(), Fail> {
+    let text = filled(rt.alloc(), 95, "")?;
+    let lines = str::from_utf8(text.bytes()).unwrap_or("");
+    let full = lines
+        .split('\n')
+        .filter(|line| *line == "1 ok 65536")
+        .count() as u64;
+    let less = full.saturating_sub(1).saturating_mul(65536);
+    let least = full.saturating_sub(2).saturating_mul(65536);
+    let rest = format!(in rt.alloc();
+        "1 truncate /a {less}\n1 truncate /a {least}\n1 fill /a {least} 65536 7\n"
+    )?;
+    let text = filled(rt.alloc(), full.saturating_add(1), rest.as_str())?;
+    let lines = str::from_utf8(text.bytes()).unwrap_or("");
+    let mut ends = lines.rsplit('\n').skip(2);
+    assert_eq!(rt; ends.next(), Some("1 ok 65536"));
+    assert_eq!(rt; ends.next(), Some("1 ok"));
+    assert_eq!(rt; ends.next(), Some("1 ok"));
+    let mut words = ends.next().unwrap_or("").split(' ').skip(1);
+    assert_eq!(rt; words.next(), Some("nospace"));
+    let free: u64 = words.next().unwrap_or("").parse().unwrap_or(u64::MAX);
+    assert!(rt; free < 2560);
+    assert_eq!(rt; words.next(), Some("2560"));
+    Ok(())
+}
+
+/// The text of a run of `SYNCED` and another sync, and the listing behind it, where this device call fails, from 1.
+fn failing_at(alloc: Global, call: u64) -> Result<(MemorySink, MemorySink), Fail> {
+    let mut disk = made_failing(alloc, &[call])?;
+    let script = b"1 create /a\n1 write /a 0 hi\n1 sync\n1 sync\n";
+    let (_, text) = run(alloc, script, &mut disk)?;
+    let (_, listing) = list(alloc, &mut disk)?;
+    Ok((text, listing))
+}
+
+#[test]
+fn each_device_call_fails_once(rt: HostRuntime) -> Result<(), Fail> {
+    // A mount reads the superblock, the root tree's leaf and the subvolume's. The first sync writes three blocks, flushes and
+    // writes the superblock; the second one writes a root leaf anew.
+    for (first, last, text, listing) in [
+        (5, 7, "disk\n", EMPTY),
+        (
+            8,
+            12,
+            "1 ok 257\n1 ok 2\n1 io\n1 ok sync\ndone 4\n",
+            WRITTEN,
+        ),
+        (
+            13,
+            15,
+            "1 ok 257\n1 ok 2\n1 ok sync\n1 io\ndone 4\n",
+            WRITTEN,
+        ),
+    ] {
+        for call in first..=last {
+            let (said, listed) = failing_at(rt.alloc(), call)?;
+            assert_eq!(rt; said.bytes(), text.as_bytes());
+            assert_eq!(rt; listed.bytes(), listing);
+        }
+    }
     Ok(())
 }

@@ -1,5 +1,5 @@
 -- The first turn of a call.
-use Rattle.std.proofs.Common.{◌≡◌, ◌||◌, ◌≢◌, ℕ, Bool, false, List, [], ◌∷◌, ◌++◌, Option, Some, None, refl, sym, ap, subst, ◌∙◌, inl, inr}
+use Rattle.std.proofs.Common.{◌≡◌, ◌||◌, ◌≢◌, ℕ, Bool, false, List, [], ◌∷◌, ◌++◌, Option, Some, None, Result, Ok, Err, OnErr, refl, sym, ap, subst, ◌∙◌, inl, inr}
 use Rattle.std.proofs.lemmas.Bool.{true≢false}
 use Rattle.blk_base.specs.declared.key.Marks.{Marks}
 use Rattle.block_table.specs.declared.batch.Batch.{Batch}
@@ -27,7 +27,7 @@ use Rattle.commit_history.specs.Legal.{shown}
 use Rattle.commit_history.specs.State.{State}
 use Rattle.commit_history.specs.Effects.{state_of as state_behind}
 use Rattle.commit_history.specs.Survival.{next_volumes}
-use Rattle.commit_images.specs.Scene.{Comes, Commit, Mounted, Nothing, Scene, batch_after, scene_after}
+use Rattle.commit_images.specs.Scene.{Comes, Commit, Happening, Mounted, Nothing, Scene, batch_after, scene_after}
 use Rattle.device_side.specs.Device.{Device}
 use Rattle.disk_model.specs.Disk.{IfTold, Told}
 use Rattle.flat_laws.proofs.Answered.{step_says}
@@ -42,7 +42,7 @@ use Rattle.flat_model.specs.Step.{step}
 use Rattle.flat_model.specs.Volume.{RunVolume, Volume}
 use Rattle.volume_calls.specs.Between.{Between, IsBetween, IsDiskAt}
 use Rattle.volume_calls.specs.Calls.{EndWith, HaveHappened, IsCalled, IsLeft, Operated}
-use Rattle.volume_calls.specs.Turns.{AreMarks, MayCommit}
+use Rattle.volume_calls.specs.Turns.{AreMarks, IsUnderWay, MayCommit}
 use Rattle.volume_calls.proofs.Happened.{event_happened, hands_nothing, nothing_happened, with_event}
 use Rattle.volume_calls.proofs.Standing.{IsAround, ends_between, made_by, others_stay, over_holds_none}
 
@@ -143,6 +143,7 @@ module _ (Was Has : Mounted → Scene → Type 0) (size : ℕ) (marks : Marks) (
     held = between.goes.held;
     knows = between.goes.knows;
     image = between.goes.size;
+    blocks = between.blocks;
     has_super = between.has_super;
     fits = between.fits;
     whole = between.whole;
@@ -180,8 +181,8 @@ module _ (Was Has : Mounted → Scene → Type 0) (size : ℕ) (marks : Marks) (
           happenings = Comes h.event Nothing ∷ [];
           happened = event_happened mounted call.caller at h.event Nothing h.made.came.may own (hands_nothing mounted);
           begins = first h.event h.made.asked;
-          ends = subst (λ r. EndWith mounted at.scene call.caller r answer (Comes h.event Nothing ∷ [])) (sym try.of)
-              (subst (λ e. EndWith mounted at.scene call.caller (requests.Op try.op) answer (Comes e Nothing ∷ [])) (sym try.is) (Operated try.op false try.indexes answer [] try.said));
+          ends = subst (λ r. EndWith mounted at call.caller r answer (Comes h.event Nothing ∷ [])) (sym try.of)
+              (subst (λ e. EndWith mounted at call.caller (requests.Op try.op) answer (Comes e Nothing ∷ [])) (sym try.is) (Operated try.op false try.indexes answer [] try.said));
           says = h.answers;
           io = λ io. absurd (never_io state.current try.op try.indexes answer try.said io);
         },
@@ -214,6 +215,7 @@ module _ (Was Has : Mounted → Scene → Type 0) (size : ℕ) (marks : Marks) (
           held = between.goes.held;
           knows = between.goes.knows;
           image = between.goes.size;
+          blocks = between.blocks;
           has_super = between.has_super;
           fits = between.fits;
           whole = between.whole;
@@ -236,3 +238,19 @@ same_disk told faults at now same_told same_faults disk = record {
 -- no event came, for want of memory
 pub left_at_once : (mounted : Mounted) (caller : ℕ) (request : Request) (at : Between) → IsLeft mounted caller request at at
 left_at_once mounted caller request at = record { happenings = []; happened = nothing_happened mounted caller at; begins = inl refl }
+
+-- at an error there is such a moment
+pub on_err : {A E : Type 0} (result : Result A E) (Left Now Rest : Between → Type 0) (x : Between) → Left x → Now x → Rest x
+    → OnErr result ((y : Between) × Left y × Now y × Rest y)
+on_err (Ok value) Left Now Rest x left now rest = tt
+on_err (Err error) Left Now Rest x left now rest = (x, left, now, rest)
+
+pub at_err : {A E : Type 0} (result : Result A E) (Left Now Same Counted : Between → Type 0) (x : Between) → Left x → Now x → Same x → Counted x
+    → OnErr result ((y : Between) × Left y × Now y × Same y × Counted y)
+at_err (Ok value) Left Now Same Counted x left now same counted = tt
+at_err (Err error) Left Now Same Counted x left now same counted = (x, left, now, same, counted)
+
+-- no event came any more, for want of memory
+pub left_under : (Has : Mounted → Scene → Type 0) (size : ℕ) (device : Device) (count : ℕ) (mounted : Mounted) (call : Call) (at now : Between) (happenings : List Happening)
+    → IsUnderWay Has size device count mounted call at now happenings → IsLeft mounted call.caller call.request at now
+left_under Has size device count mounted call at now happenings under = record { happenings = happenings; happened = under.happened; begins = inr under.begins }

@@ -13,8 +13,9 @@ use Rattle.call_steps.specs.declared.next.Next.TheVariants as nexts
 use Rattle.commit_core.specs.declared.work.Work.{Work}
 use Rattle.commit_core.specs.declared.work.Work.TheVariants as works
 use Rattle.call_steps.specs.Standing.{IsAt, IsFinished}
-use Rattle.call_steps.specs.Steps.{EndsBy, HasAnswered, HasHandedOut, HasMade, HasMoved, HasStepped, HasToWait, IsCovered, IsSaid, MayStep, answer_behind, marks_after}
+use Rattle.call_steps.specs.Steps.{EndsBy, HasAnswered, HasHandedOut, HasMade, HasMoved, HasStepped, HasToWait, IsCovered, IsSaid, LeavesFew, MayStep, answer_behind, marks_after}
 use Rattle.commit_core.specs.Coming.{call_in, state_of}
+use Rattle.commit_core.specs.Few.{HasFew}
 use Rattle.commit_core.specs.Holding.{IsFullOf}
 use Rattle.commit_core.specs.declared.work.Outcome.{Outcome}
 use Rattle.commit_history.specs.Calls as history
@@ -158,7 +159,7 @@ module _ (Has : Mounted → Scene → Type 0) (Out : Batch → Type 0) (size : �
     happened_more = event_more mounted call.caller at now happenings e Nothing is.under.happened made.came.may own (hands_nothing mounted)
 
     around : IsAround size device count mounted call.caller now
-    around = record { others = is.under.others; held = is.under.held; knows = is.under.knows; image = is.under.image; has_super = is.under.has_super; fits = is.under.fits; whole = is.under.whole }
+    around = record { others = is.under.others; held = is.under.held; knows = is.under.knows; image = is.under.image; blocks = is.under.happened.blocks ∙ is.under.blocks; has_super = is.under.has_super; fits = is.under.fits; whole = is.under.whole }
 
     -- behind a commit that is done, its caller's call
     covered_call : e ≡ event.FullDone call.caller → call_in mounted (scene_after mounted.volume now.scene (Comes e Nothing)) call.caller ≡ counted (call_at past.stage covers.Full past.events)
@@ -196,14 +197,14 @@ module _ (Has : Mounted → Scene → Type 0) (Out : Batch → Type 0) (size : �
           asks (OfSync sealed asked stage) = BySync asked
               (sym (subst (λ x. IsSaid state.current free names x answer) done answered.said) ∙ some_same (shown answer) answers.Sync (sym told ∙ ap (λ s. answer_of (counted (call_at s covers.Full past.events))) stage)) done
 
-  ends_with : (e : Event) (answer : Answer) → HowAnswered e answer → EndWith mounted at.scene call.caller call.request answer (happenings ++ Comes e Nothing ∷ [])
+  ends_with : (e : Event) (answer : Answer) → HowAnswered e answer → EndWith mounted at call.caller call.request answer (happenings ++ Comes e Nothing ∷ [])
   ends_with e answer (BySync asked sync done) =
-      subst (λ r. EndWith mounted at.scene call.caller r answer (happenings ++ Comes e Nothing ∷ [])) (sym asked)
-      (subst (λ a. EndWith mounted at.scene call.caller requests.Sync a (happenings ++ Comes e Nothing ∷ [])) (sym sync)
-      (subst (λ x. EndWith mounted at.scene call.caller requests.Sync answers.Sync (happenings ++ Comes x Nothing ∷ [])) (sym done) (Synced happenings)))
+      subst (λ r. EndWith mounted at call.caller r answer (happenings ++ Comes e Nothing ∷ [])) (sym asked)
+      (subst (λ a. EndWith mounted at call.caller requests.Sync a (happenings ++ Comes e Nothing ∷ [])) (sym sync)
+      (subst (λ x. EndWith mounted at call.caller requests.Sync answers.Sync (happenings ++ Comes x Nothing ∷ [])) (sym done) (Synced happenings)))
   ends_with e answer (ByFailure tried io failed err) =
-      subst (λ a. EndWith mounted at.scene call.caller call.request a (happenings ++ Comes e Nothing ∷ [])) (sym io)
-      (subst (λ x. EndWith mounted at.scene call.caller call.request answers.Io (happenings ++ Comes x Nothing ∷ [])) (sym failed) (DeviceFailed tried happenings))
+      subst (λ a. EndWith mounted at call.caller call.request a (happenings ++ Comes e Nothing ∷ [])) (sym io)
+      (subst (λ x. EndWith mounted at call.caller call.request answers.Io (happenings ++ Comes x Nothing ∷ [])) (sym failed) (DeviceFailed tried happenings))
 
   io_rises : (e : Event) (answer : Answer) → HowAnswered e answer → answer ≡ answers.Io → HasRisen at.faults now.faults
   io_rises e answer (BySync asked sync done) io = absurd (let both : answers.Sync ≡ answers.Io = sym sync ∙ io in cc)
@@ -239,10 +240,10 @@ module _ (Has : Mounted → Scene → Type 0) (Out : Batch → Type 0) (size : �
       of (IsWritten done) = done
       of (HasFailed tried failed) = absurd (some_none answers.Io (sym (failed_answer After next moved.event moved.made tried failed) ∙ moved.goes_on))
 
-  pub back_moved : (After : Mounted → Scene → Type 0) (size_now : ℕ) (marks_now : Marks) (next : Call) → size_now ≡ size → marks_now ≡ marks_after marks (Some outcome) → next.caller ≡ call.caller → next.request ≡ call.request
-      → (moved : HasMoved After mounted now.scene call next (Some outcome))
-      → IsCommitted After size_now marks_now device count mounted next at (with_event mounted now moved.event Nothing) (happenings ++ Comes moved.event Nothing ∷ [])
-  back_moved After size_now marks_now next same_size same_marks same_caller same_request moved =
+  pub back_moved : (After : Mounted → Scene → Type 0) (size_now used : ℕ) (marks_now : Marks) (next : Call) → size_now ≡ size → marks_now ≡ marks_after marks (Some outcome) → next.caller ≡ call.caller → next.request ≡ call.request
+      → (moved : HasMoved After mounted now.scene call next (Some outcome)) → HasFew mounted (scene_after mounted.volume now.scene (Comes (event.FullDone call.caller) Nothing)) used
+      → IsCommitted After size_now used marks_now device count mounted next at (with_event mounted now moved.event Nothing) (happenings ++ Comes moved.event Nothing ∷ [])
+  back_moved After size_now used marks_now next same_size same_marks same_caller same_request moved few =
       let e : Event = moved.event in
       let later : Scene = scene_after mounted.volume now.scene (Comes e Nothing) in
       let done : e ≡ event.FullDone call.caller = moved_done After next moved in
@@ -259,6 +260,7 @@ module _ (Has : Mounted → Scene → Type 0) (Out : Batch → Type 0) (size : �
           held = is.under.held;
           knows = is.under.knows;
           image = is.under.image;
+          blocks = is.under.blocks ∙ sym same_size;
           has_super = subst (λ n. 16 < n) (sym same_size) is.under.has_super;
           fits = subst (λ n. n ≤ count) (sym same_size) is.under.fits;
           whole = is.under.whole;
@@ -269,6 +271,7 @@ module _ (Has : Mounted → Scene → Type 0) (Out : Batch → Type 0) (size : �
         apart = subst (λ c. IsFullOf mounted later c → ⊥) (sym same_caller) moved.made.turn;
         covered = ap (λ (c : history.Call). c.cover) (same_call ∙ covered_call After next e moved.made done);
         unanswered = ap answer_of same_call ∙ moved.goes_on;
+        few = subst (λ x. HasFew mounted (scene_after mounted.volume now.scene (Comes x Nothing)) used) (sym done) few;
       }
 
   -- ---- what the turn did
@@ -276,6 +279,11 @@ module _ (Has : Mounted → Scene → Type 0) (Out : Batch → Type 0) (size : �
   pub at_moved : (After : Mounted → Scene → Type 0) (Same : Type 0) (next : Call) (free : ℕ) (names : List ℕ) (did : Next) → did ≡ nexts.Moved → HasStepped After Same mounted now.scene call next (Some outcome) free names did
       → HasMoved After mounted now.scene call next (Some outcome)
   at_moved After Same next free names did same stepped = subst (HasStepped After Same mounted now.scene call next (Some outcome) free names) same stepped
+
+  -- few blocks are in use behind it
+  pub at_few : (count : ℕ) (did : Next) → did ≡ nexts.Moved → LeavesFew mounted now.scene call.caller count (Some outcome) did
+      → HasFew mounted (scene_after mounted.volume now.scene (Comes (event.FullDone call.caller) Nothing)) count
+  at_few count did same few = subst (LeavesFew mounted now.scene call.caller count (Some outcome)) same few
 
   pub at_finished : (After : Mounted → Scene → Type 0) (Same : Type 0) (next : Call) (free : ℕ) (names : List ℕ) (answer : Answer) (did : Next) → did ≡ nexts.Finished answer
       → HasStepped After Same mounted now.scene call next (Some outcome) free names did → HasAnswered After mounted now.scene call next (Some outcome) free names answer

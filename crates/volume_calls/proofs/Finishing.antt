@@ -19,7 +19,7 @@ use Rattle.call_steps.specs.declared.next.Next.{Next}
 use Rattle.call_steps.specs.declared.next.Next.TheVariants as nexts
 use Rattle.commit_core.specs.Coming.{IsDeviceCall, call_in, numbered, state_of}
 use Rattle.commit_core.specs.Holding.{IsFullOf}
-use Rattle.commit_core.specs.Sealed.{HavePlaces, IsReadyToWrite}
+use Rattle.commit_core.specs.Sealed.{HavePlaces, IsReadyToWrite, StandsWhole}
 use Rattle.commit_core.specs.declared.work.Outcome.{Outcome}
 use Rattle.commit_core.specs.declared.work.Work.TheVariants as works
 use Rattle.commit_device.proofs.Finishing.{by_result}
@@ -34,7 +34,7 @@ use Rattle.commit_history.specs.declared.event.Cover.TheVariants as covers
 use Rattle.commit_history.specs.declared.event.Event.{Event}
 use Rattle.commit_history.specs.declared.event.Event.TheVariants as event
 use Rattle.commit_images.specs.Admissible.{MayHappen}
-use Rattle.commit_images.specs.Scene.{Comes, Commit, Handed, Happening, IsWritten, Mounted, Nothing, NotTried, Progress, Scene, StandsFor, scene_after, scene_behind}
+use Rattle.commit_images.specs.Scene.{Comes, Commit, Handed, Happening, IsWritten, Mounted, Nothing, NotTried, Progress, Scene, scene_after, scene_behind}
 use Rattle.commit_images.specs.Scene as scenes
 use Rattle.device_side.specs.Device.{Device, IsNextFor, IsPart, after_done, after_tried, rewritten, to_write, unwritten}
 use Rattle.device_side.specs.Finish.{IsFinishOf}
@@ -45,7 +45,6 @@ use Rattle.disk_model.specs.declared.fault.DeviceFault.TheVariants as fault
 use Rattle.flat_model.proofs.Maps.{some_none}
 use Rattle.flat_model.specs.declared.answer.Answer.{Answer}
 use Rattle.flat_model.specs.declared.request.Request.{Request}
-use Rattle.volume_image.specs.Stands.{Stands}
 use Rattle.volume_calls.specs.Between.{Between, IsDiskAt}
 use Rattle.volume_calls.specs.Calls.{BeginWith, HaveHappened, IsCalled, IsLeft}
 use Rattle.volume_calls.specs.Turns.{AreMarks, HasCommitBack, MayCommit}
@@ -216,7 +215,7 @@ module _ (Before Has : Mounted → Scene → Type 0) (Out : Batch → Type 0) (s
   stands_handed : HandsStanding mounted gives
   stands_handed blocks commit is =
       let same : handed.sealed.commit ≡ commit = (let both : scenes.Batch (numbered batch.blocks.pairs) handed.sealed.commit ≡ scenes.Batch blocks commit = is in cc) in
-      subst (StandsFor Stands (length mounted.image)) same handed.sealed.stands
+      subst (StandsWhole (length mounted.image)) same handed.sealed.stands
 
   around : IsAround size device count mounted call.caller sealed
   around = around_more size device count mounted call.caller now (event.SealFull call.caller) gives refl (record {
@@ -224,6 +223,7 @@ module _ (Before Has : Mounted → Scene → Type 0) (Out : Batch → Type 0) (s
     held = may.under.held;
     knows = may.under.knows;
     image = may.under.image;
+    blocks = may.under.happened.blocks ∙ may.under.blocks;
     has_super = may.under.has_super;
     fits = may.under.fits;
     whole = may.under.whole;
@@ -262,6 +262,7 @@ module _ (Before Has : Mounted → Scene → Type 0) (Out : Batch → Type 0) (s
             held = finished.held;
             knows = finished.knows;
             image = image_stays now.told later finished.added finished.goes_on ∙ may.under.image;
+            blocks = may.under.blocks;
             has_super = may.under.has_super;
             fits = may.under.fits;
             whole = may.under.whole;
@@ -274,6 +275,7 @@ module _ (Before Has : Mounted → Scene → Type 0) (Out : Batch → Type 0) (s
             runs = subst (λ c. IsFullOf mounted behind.scene c) (sym caller_is) (subst (λ events. HoldsFull (effects.state_of mounted.volume events) call.caller) (sym finished.events) handed.made.turn);
             result = result_of handed.sealed.commit sealed.scene behind.scene result finished.ended;
           };
+          just = (now.scene.events, finished.events ∙ ap (λ c. now.scene.events ++ event.SealFull c ∷ []) (sym caller_is));
           risen = risen_by at.faults now.faults faults result may.under.happened.counted cause;
         }
 
@@ -325,10 +327,10 @@ called_so Now mounted call next at later new faults (Ok answer) caller_is reques
     (x, subst (λ r. IsCalled mounted call.caller r answer at x) request_is (subst (λ c. IsCalled mounted c next.request answer at x) caller_is called), between, disk_at new faults later x told are same_told same_faults)
 called_so Now mounted call next at later new faults (Err e) caller_is request_is told are given = tt
 
-pub left_so : {E : Type 0} (mounted : Mounted) (call next : Call) (at later : Between) (new : Option Told) (faults : ℕ) (result : Result Answer E) → next.caller ≡ call.caller → next.request ≡ call.request
+pub left_so : {E : Type 0} (Now : Between → Type 0) (mounted : Mounted) (call next : Call) (at later : Between) (new : Option Told) (faults : ℕ) (result : Result Answer E) → next.caller ≡ call.caller → next.request ≡ call.request
     → IfTold new (λ t. t ≡ later.told) → faults ≡ later.faults
-    → OnErr result ((x : Between) × IsLeft mounted next.caller next.request at x × (x.told ≡ later.told) × (x.faults ≡ later.faults))
-    → OnErr result ((x : Between) × IsLeft mounted call.caller call.request at x × IsDiskAt new faults x)
-left_so mounted call next at later new faults (Ok answer) caller_is request_is told are given = tt
-left_so mounted call next at later new faults (Err e) caller_is request_is told are (x, left, same_told, same_faults) =
-    (x, subst (λ r. IsLeft mounted call.caller r at x) request_is (subst (λ c. IsLeft mounted c next.request at x) caller_is left), disk_at new faults later x told are same_told same_faults)
+    → OnErr result ((x : Between) × IsLeft mounted next.caller next.request at x × Now x × (x.told ≡ later.told) × (x.faults ≡ later.faults))
+    → OnErr result ((x : Between) × IsLeft mounted call.caller call.request at x × Now x × IsDiskAt new faults x)
+left_so Now mounted call next at later new faults (Ok answer) caller_is request_is told are given = tt
+left_so Now mounted call next at later new faults (Err e) caller_is request_is told are (x, left, kept, same_told, same_faults) =
+    (x, subst (λ r. IsLeft mounted call.caller r at x) request_is (subst (λ c. IsLeft mounted c next.request at x) caller_is left), kept, disk_at new faults later x told are same_told same_faults)

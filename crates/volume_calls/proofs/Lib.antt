@@ -5,3 +5,4 @@ pub mod Ended
 pub mod Retrying
 pub mod Begun
 pub mod Finishing
+pub mod NoSpace

@@ -1,5 +1,5 @@
 -- The second try of an operation, behind its own full commit.
-use Rattle.std.proofs.Common.{◌≡◌, ◌||◌, ℕ, Bool, true, List, [], ◌∷◌, ◌++◌, Some, None, refl, sym, ap, subst, ◌∙◌, inl, inr}
+use Rattle.std.proofs.Common.{◌≡◌, ◌≤◌, ◌<◌, ◌+◌, ◌||◌, ℕ, Bool, true, List, [], ◌∷◌, ◌++◌, Some, None, refl, sym, ap, subst, ◌∙◌, inl, inr, arith}
 use Rattle.std.proofs.lemmas.Bool.{true≢false}
 use Rattle.blk_base.specs.declared.key.Marks.{Marks}
 use Rattle.block_table.specs.declared.batch.Batch.{Batch}
@@ -16,7 +16,7 @@ use Rattle.commit_core.specs.Coming.{call_in, state_of}
 use Rattle.commit_core.specs.declared.work.Work.TheVariants as works
 use Rattle.commit_history.specs.Calls as history
 use Rattle.commit_history.specs.Calls.{AsksFirst, AsksForFull, Duty, FullFailed, FullWritten, GivesSlotUp, IsDone, Logs, Operates, OperatesAgain, PartFailed, PartGivenUp, PartWritten, Refuses, RootFailed, RootWritten, SealsFull, SealsLogs, SealsPart, SealsVolume, Syncs, TriesAgain, WasShort, answer_of, caller_of, duty}
-use Rattle.commit_history.specs.Legal.{shown}
+use Rattle.commit_history.specs.Legal.{IsOpEnd, IsShort, MayCome, shown}
 use Rattle.commit_history.specs.State.{State}
 use Rattle.commit_history.specs.declared.event.Event.{Event}
 use Rattle.commit_history.specs.declared.event.Event.TheVariants as event
@@ -24,6 +24,7 @@ use Rattle.commit_history.specs.declared.event.OpEnd.{OpEnd}
 use Rattle.commit_history.specs.declared.event.OpEnd.TheVariants as ends
 use Rattle.commit_history.specs.declared.event.Turn.{Turn}
 use Rattle.commit_images.specs.Scene.{Comes, Happening, Mounted, Nothing, Scene}
+use Rattle.commit_room.specs.Room.{free_blocks}
 use Rattle.device_side.specs.Device.{Device}
 use Rattle.disk_model.specs.Disk.{HasRisen}
 use Rattle.flat_laws.proofs.Answered.{step_says}
@@ -33,10 +34,11 @@ use Rattle.flat_model.specs.declared.answer.Answer.TheVariants as answers
 use Rattle.flat_model.specs.declared.op.Op.{Op}
 use Rattle.flat_model.specs.declared.request.Request.TheVariants as requests
 use Rattle.flat_model.specs.Refusal.{is_done, is_refusal}
+use Rattle.flat_model.specs.Needs.{need}
 use Rattle.flat_model.specs.Step.{step}
 use Rattle.flat_model.specs.Volume.{RunVolume}
 use Rattle.volume_calls.specs.Between.{Between, IsBetween}
-use Rattle.volume_calls.specs.Calls.{EndWith, IsCalled, LackedRoom, Operated}
+use Rattle.volume_calls.specs.Calls.{EndWith, IsCalled, LackedRoom, LacksRoom, Operated}
 use Rattle.volume_calls.specs.Turns.{AreMarks, IsCommitted}
 use Rattle.volume_calls.proofs.Ended.{begins_longer}
 use Rattle.volume_calls.proofs.Happened.{event_more, hands_nothing, with_event}
@@ -47,6 +49,14 @@ never_io : (run : RunVolume) (op : Op) (indexes : List ℕ) (answer : Answer) �
 never_io run op indexes answer is io =
     let same : answers.Io ≡ (step run op indexes).answer = sym io ∙ is in
     true≢false (sym (step_says run op indexes) ∙ ap (λ a. is_done a || is_refusal a) (sym same))
+
+-- what an operation that was short shows
+short_is : (current : RunVolume) (op : Op) (indexes : List ℕ) (free needed : ℕ) → IsOpEnd current op indexes (ends.Short free needed) → (free < needed) × (needed ≡ need current op)
+short_is current op indexes free _ (IsShort own few) = (few, refl)
+
+-- few blocks in use leave many free
+few_used : (blocks size used free room : ℕ) → blocks ≡ size → free ≡ free_blocks size used → used ≤ room → blocks ≤ free + (82 + room)
+few_used blocks size used free room same is few = omega (arith, same, is, few)
 
 -- the second try of this operation
 data IsRetry (caller : ℕ) (op : Op) (e : Event) : Type 0 where
@@ -86,8 +96,8 @@ retried state caller past op (ends.Short free need) indexes = refl
 no_seal : (caller : ℕ) (op : Op) → IsRetry caller op (event.SealFull caller) → ⊥
 no_seal caller op (Retries end indexes is) = absurd cc
 
-module _ (Has : Mounted → Scene → Type 0) (size : ℕ) (marks : Marks) (device : Device) (count : ℕ) (mounted : Mounted) (call : Call) (at now : Between) (happenings : List Happening)
-    (is : IsCommitted Has size marks device count mounted call at now happenings) where
+module _ (Has : Mounted → Scene → Type 0) (size used : ℕ) (marks : Marks) (device : Device) (count : ℕ) (mounted : Mounted) (call : Call) (at now : Between) (happenings : List Happening)
+    (is : IsCommitted Has size used marks device count mounted call at now happenings) where
   abbrev state : State
   state = state_of mounted now.scene
 
@@ -137,11 +147,11 @@ module _ (Has : Mounted → Scene → Type 0) (size : ℕ) (marks : Marks) (devi
   -- that of the definition, or that there is too little room
   data HowAnswered (e : Event) (answer : Answer) : Type 0 where
     ByStep : (indexes : List ℕ) → answer ≡ (step state.current is_op.op indexes).answer → e ≡ event.Op call.caller is_op.op true (ends.Answered (shown answer)) indexes → HowAnswered e answer
-    ByRoom : (free need : ℕ) (indexes : List ℕ) → answer ≡ answers.NoSpace free need → e ≡ event.Op call.caller is_op.op true (ends.Short free need) indexes → HowAnswered e answer
+    ByRoom : (free need : ℕ) (indexes : List ℕ) → answer ≡ answers.NoSpace free need → e ≡ event.Op call.caller is_op.op true (ends.Short free need) indexes → free ≡ free_blocks size used → HowAnswered e answer
 
-  how_answered : (After : Mounted → Scene → Type 0) (next : Call) (free : ℕ) (names : List ℕ) (answer : Answer) → (answered : HasAnswered After mounted now.scene call next None free names answer)
+  how_answered : (After : Mounted → Scene → Type 0) (next : Call) (free : ℕ) (names : List ℕ) (answer : Answer) → free ≡ free_blocks size used → (answered : HasAnswered After mounted now.scene call next None free names answer)
       → HowAnswered answered.event answer
-  how_answered After next free names answer answered = of (is_retry After next answered.event answered.made)
+  how_answered After next free names answer freed answered = of (is_retry After next answered.event answered.made)
     where
       said_at : (end : OpEnd) (indexes : List ℕ) → answered.event ≡ event.Op call.caller is_op.op true end indexes → IsSaid state.current free names (event.Op call.caller is_op.op true end indexes) answer
       said_at end indexes same = subst (λ x. IsSaid state.current free names x answer) same answered.said
@@ -150,38 +160,44 @@ module _ (Has : Mounted → Scene → Type 0) (size : ℕ) (marks : Marks) (devi
       by_end (ends.Answered told) indexes same =
           let shown_is : told ≡ shown answer = some_same told (shown answer) (sym (says After next answered.event answered.made (ends.Answered told) indexes same) ∙ answered.answers) in
           ByStep indexes (said_at (ends.Answered told) indexes same).0 (same ∙ ap (λ t. event.Op call.caller is_op.op true (ends.Answered t) indexes) shown_is)
-      by_end (ends.Short told need) indexes same = ByRoom told need indexes (said_at (ends.Short told need) indexes same).0 same
+      by_end (ends.Short told need) indexes same = ByRoom told need indexes (said_at (ends.Short told need) indexes same).0 same ((said_at (ends.Short told need) indexes same).1 ∙ freed)
 
       of : IsRetry call.caller is_op.op answered.event → HowAnswered answered.event answer
       of (Retries end indexes same) = by_end end indexes same
 
-  ends_with : (e : Event) (answer : Answer) → HowAnswered e answer → EndWith mounted at.scene call.caller call.request answer (happenings ++ Comes e Nothing ∷ [])
-  ends_with e answer (ByStep indexes stepped same) =
-      subst (λ r. EndWith mounted at.scene call.caller r answer (happenings ++ Comes e Nothing ∷ [])) (sym is_op.asked)
-      (subst (λ x. EndWith mounted at.scene call.caller (requests.Op is_op.op) answer (happenings ++ Comes x Nothing ∷ [])) (sym same)
+  lacks : (free needed : ℕ) (indexes : List ℕ) (e : Event) → e ≡ event.Op call.caller is_op.op true (ends.Short free needed) indexes → MayCome state e → free ≡ free_blocks size used → LacksRoom at.blocks state.current is_op.op free needed
+  lacks free needed indexes e same may freed =
+      let shown = short_is state.current is_op.op indexes free needed (subst (MayCome state) same may).1 in
+      record { too_few = shown.0; of_op = shown.1; has_free = few_used at.blocks size used free _ is.under.blocks freed is.few }
+
+  ends_with : (e : Event) (answer : Answer) → HowAnswered e answer → MayCome state e → EndWith mounted at call.caller call.request answer (happenings ++ Comes e Nothing ∷ [])
+  ends_with e answer (ByStep indexes stepped same) may =
+      subst (λ r. EndWith mounted at call.caller r answer (happenings ++ Comes e Nothing ∷ [])) (sym is_op.asked)
+      (subst (λ x. EndWith mounted at call.caller (requests.Op is_op.op) answer (happenings ++ Comes x Nothing ∷ [])) (sym same)
       (Operated is_op.op true indexes answer happenings (stepped ∙ ap (λ (s : Scene). (step (state_of mounted s).current is_op.op indexes).answer) is.under.happened.behind)))
-  ends_with e answer (ByRoom free need indexes short same) =
-      subst (λ r. EndWith mounted at.scene call.caller r answer (happenings ++ Comes e Nothing ∷ [])) (sym is_op.asked)
-      (subst (λ a. EndWith mounted at.scene call.caller (requests.Op is_op.op) a (happenings ++ Comes e Nothing ∷ [])) (sym short)
-      (subst (λ x. EndWith mounted at.scene call.caller (requests.Op is_op.op) (answers.NoSpace free need) (happenings ++ Comes x Nothing ∷ [])) (sym same) (LackedRoom is_op.op free need indexes happenings)))
+  ends_with e answer (ByRoom free need indexes short same freed) may =
+      subst (λ r. EndWith mounted at call.caller r answer (happenings ++ Comes e Nothing ∷ [])) (sym is_op.asked)
+      (subst (λ a. EndWith mounted at call.caller (requests.Op is_op.op) a (happenings ++ Comes e Nothing ∷ [])) (sym short)
+      (subst (λ x. EndWith mounted at call.caller (requests.Op is_op.op) (answers.NoSpace free need) (happenings ++ Comes x Nothing ∷ [])) (sym same) (LackedRoom is_op.op free need indexes happenings
+      (subst (λ (s : Scene). LacksRoom at.blocks (state_of mounted s).current is_op.op free need) is.under.happened.behind (lacks free need indexes e same may freed)))))
 
   io_rises : (e : Event) (answer : Answer) → HowAnswered e answer → answer ≡ answers.Io → HasRisen at.faults now.faults
   io_rises e answer (ByStep indexes stepped same) io = absurd (never_io state.current is_op.op indexes answer stepped io)
-  io_rises e answer (ByRoom free need indexes short same) io = absurd (let both : answers.NoSpace free need ≡ answers.Io = sym short ∙ io in cc)
+  io_rises e answer (ByRoom free need indexes short same freed) io = absurd (let both : answers.NoSpace free need ≡ answers.Io = sym short ∙ io in cc)
 
   pub again_answered : (After : Mounted → Scene → Type 0) (size_now : ℕ) (marks_now : Marks) (next : Call) (free : ℕ) (names : List ℕ) (answer : Answer) → size_now ≡ size → marks_now ≡ marks
-      → IsFinished next → HasAnswered After mounted now.scene call next None free names answer
+      → free ≡ free_blocks size used → IsFinished next → HasAnswered After mounted now.scene call next None free names answer
       → (later : Between) × IsCalled mounted call.caller call.request answer at later × IsBetween After size_now marks_now device count mounted later × (later.told ≡ now.told) × (later.faults ≡ now.faults)
-  again_answered After size_now marks_now next free names answer same_size same_marks finished answered =
+  again_answered After size_now marks_now next free names answer same_size same_marks freed finished answered =
       let e : Event = answered.event in
-      let how : HowAnswered e answer = how_answered After next free names answer answered in
-      let around : IsAround size device count mounted call.caller now = record { others = is.under.others; held = is.under.held; knows = is.under.knows; image = is.under.image; has_super = is.under.has_super; fits = is.under.fits; whole = is.under.whole } in (
+      let how : HowAnswered e answer = how_answered After next free names answer freed answered in
+      let around : IsAround size device count mounted call.caller now = record { others = is.under.others; held = is.under.held; knows = is.under.knows; image = is.under.image; blocks = is.under.happened.blocks ∙ is.under.blocks; has_super = is.under.has_super; fits = is.under.fits; whole = is.under.whole } in (
         with_event mounted now e Nothing,
         record {
           happenings = happenings ++ Comes e Nothing ∷ [];
           happened = event_more mounted call.caller at now happenings e Nothing is.under.happened answered.made.came.may (own After next e answered.made) (hands_nothing mounted);
           begins = begins_longer call.request happenings (Comes e Nothing ∷ []) is.under.begins;
-          ends = ends_with e answer how;
+          ends = ends_with e answer how answered.made.came.may.0;
           says = answered.answers;
           io = io_rises e answer how;
         },

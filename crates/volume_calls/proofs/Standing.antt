@@ -100,6 +100,7 @@ pub record IsAround (size : ℕ) (device : Device) (count : ℕ) (mounted : Moun
   pub held : HoldsAtLeast (held_now now.told) now.scene.held
   pub knows : KnowsFailed device.failed now.scene.found
   pub image : length (image_now now.told) ≡ length mounted.image
+  pub blocks : now.blocks ≡ size
   pub has_super : 16 < size
   pub fits : size ≤ count
   pub whole : length mounted.image ≡ count
@@ -110,6 +111,7 @@ around_more size device count mounted caller now e handed own around = record {
   held = around.held;
   knows = around.knows;
   image = around.image;
+  blocks = around.blocks;
   has_super = around.has_super;
   fits = around.fits;
   whole = around.whole;
@@ -135,6 +137,7 @@ ends_between Has size marks device count mounted now call next done e around agr
       };
       done = agree.done;
       tried = agree.tried;
+      blocks = around.blocks;
       has_super = around.has_super;
       fits = around.fits;
       whole = around.whole;

@@ -1,5 +1,5 @@
 -- What is known of a mounted volume and its disk between two calls.
-use Rattle.std.specs.Prelude.{◌≡◌, ◌≤◌, ◌<◌, ℕ, length, Option, None}
+use Rattle.std.specs.Prelude.{◌≡◌, ◌≤◌, ◌<◌, ℕ, length, Option, None, ⊤}
 use Rattle.blk_base.specs.declared.key.Marks.{Marks}
 use Rattle.call_steps.specs.Orderly.{IsOrderly}
 use Rattle.call_steps.specs.Standing.{IsOver}
@@ -8,19 +8,24 @@ use Rattle.commit_device.specs.Calls.{HoldsAtLeast}
 use Rattle.commit_device.specs.Finish.{KnowsFailed}
 use Rattle.commit_images.specs.Scene.{Mounted, Scene}
 use Rattle.device_side.specs.Device.{Device}
-use Rattle.disk_model.specs.Disk.{IfTold, Told, held_now, image_now}
+use Rattle.disk_model.specs.Disk.{IfBoth, IfTold, Told, held_now, image_now}
 
--- What happened on the volume since its mount; the disk's record, where the disk tells it, or else one that goes with what happened; and how often the disk has
--- failed (own).
+-- What happened on the volume since its mount; the disk's record, where the disk tells it, or else one that goes with what happened; how often the disk has
+-- failed; and how many blocks the volume has (own).
 pub record Between : Type 0 where
   pub scene : Scene
   pub told : Told
   pub faults : ℕ
+  pub blocks : ℕ
 
 -- the disk tells this record, where it tells one, and has failed so often (own)
 pub record IsDiskAt (record_now : Option Told) (count : ℕ) (at : Between) : Type 0 where
   pub told : IfTold record_now (λ now. now ≡ at.told)
   pub faults : count ≡ at.faults
+
+-- a disk that told its record before tells it now, and no other does (own)
+abbrev pub TellsStill : Option Told → Option Told → Type 0
+TellsStill before now = IfBoth before now (λ old new. ⊤)
 
 -- Between two calls no call is unfinished, and no commit runs. What the disk's record says, and what the device knows of a superblock whose write failed, goes
 -- with what happened (own).
@@ -39,6 +44,7 @@ pub record IsBetween (Has : Mounted → Scene → Type 0) (size : ℕ) (marks : 
   pub goes : GoesWith mounted device at
   pub done : marks.done ≡ device.marks.done
   pub tried : marks.tried ≡ device.marks.tried
+  pub blocks : at.blocks ≡ size
   pub has_super : 16 < size
   pub fits : size ≤ count
   pub whole : length mounted.image ≡ count

@@ -9,6 +9,7 @@ use Rattle.call_steps.specs.Orderly.{IsOrderly}
 use Rattle.call_steps.specs.Standing.{IsAt, IsOver, IsWaiting}
 use Rattle.call_steps.specs.Steps.{IsBack, marks_after}
 use Rattle.commit_core.specs.Coming.{call_in}
+use Rattle.commit_core.specs.Few.{HasFew, IsJustSealed}
 use Rattle.commit_core.specs.declared.work.Outcome.{Outcome}
 use Rattle.commit_core.specs.declared.work.Work.TheVariants as works
 use Rattle.commit_core.specs.Holding.{IsFullOf}
@@ -23,7 +24,8 @@ use Rattle.volume_calls.specs.Between.{Between}
 use Rattle.volume_calls.specs.Calls.{BeginWith, HaveHappened}
 
 -- A call that waits has made these events, with the calls of the device between them, and no other call is unfinished. What the disk's record says, and what
--- the device knows of a superblock whose write failed, goes with what happened; and no more blocks are written than there are (own).
+-- the device knows of a superblock whose write failed, goes with what happened; the volume has as many blocks as the core; and no more blocks are written than
+-- there are (own).
 pub record IsUnderWay (Has : Mounted → Scene → Type 0) (size : ℕ) (device : Device) (count : ℕ) (mounted : Mounted) (call : Call) (at now : Between)
     (happenings : List Happening) : Type 0 where
   pub has : Has mounted now.scene
@@ -36,6 +38,7 @@ pub record IsUnderWay (Has : Mounted → Scene → Type 0) (size : ℕ) (device 
   pub held : HoldsAtLeast (held_now now.told) now.scene.held
   pub knows : KnowsFailed device.failed now.scene.found
   pub image : length (image_now now.told) ≡ length mounted.image
+  pub blocks : at.blocks ≡ size
   pub has_super : 16 < size
   pub fits : size ≤ count
   pub whole : length mounted.image ≡ count
@@ -54,8 +57,8 @@ pub record MayCommit (Has : Mounted → Scene → Type 0) (size : ℕ) (marks : 
   pub apart : IsFullOf mounted now.scene call.caller → ⊥
   pub uncovered : (call_in mounted now.scene call.caller).cover ≢ covers.Full
 
--- Its own full commit has covered it, which doesn't answer it, and none runs (own).
-pub record IsCommitted (Has : Mounted → Scene → Type 0) (size : ℕ) (marks : Marks) (device : Device) (count : ℕ) (mounted : Mounted) (call : Call) (at now : Between)
+-- Its own full commit has covered it, which doesn't answer it, and none runs. So many blocks are in use, which are few, since no other event came in between (own).
+pub record IsCommitted (Has : Mounted → Scene → Type 0) (size used : ℕ) (marks : Marks) (device : Device) (count : ℕ) (mounted : Mounted) (call : Call) (at now : Between)
     (happenings : List Happening) : Type 0 where
   pub under : IsUnderWay Has size device count mounted call at now happenings
   pub agree : AreMarks marks device
@@ -63,13 +66,15 @@ pub record IsCommitted (Has : Mounted → Scene → Type 0) (size : ℕ) (marks 
   pub apart : IsFullOf mounted now.scene call.caller → ⊥
   pub covered : (call_in mounted now.scene call.caller).cover ≡ covers.Full
   pub unanswered : answer_of (call_in mounted now.scene call.caller) ≡ None
+  pub few : HasFew mounted now.scene used
 
--- Its full commit is back from the device, whose marks are those that the core will have (own).
+-- Its full commit is back from the device, whose marks are those that the core will have, and no event came since its seal (own).
 pub record HasCommitBack (Has : Mounted → Scene → Type 0) (Out : Batch → Type 0) (size : ℕ) (marks : Marks) (device : Device) (count : ℕ) (mounted : Mounted) (call : Call)
     (at now : Between) (happenings : List Happening) (outcome : Outcome) : Type 0 where
   pub under : IsUnderWay Has size device count mounted call at now happenings
   pub agree : AreMarks (marks_after marks (Some outcome)) device
   pub back : IsBack Out mounted now.scene call.caller outcome
+  pub just : IsJustSealed now.scene call.caller
   pub risen : IsErr outcome.result → HasRisen at.faults now.faults
 
 -- a turn handed out a batch

@@ -1,9 +1,9 @@
 //! One call.
-ghost use Rattle.std.specs.Prelude.{◌≡◌, ◌≤◌, ◌<◌, ◌+◌, ◌^◌, IfOk, List, OnErr, ℕ};
+ghost use Rattle.std.specs.Prelude.{◌≡◌, ◌≤◌, ◌<◌, ◌+◌, ◌^◌, IfOk, List, length, OnErr, ℕ};
 ghost use Rattle.call_steps.specs.Standing.{IsAllowed};
 ghost use Rattle.device_side.specs.Device.{Device};
 ghost use Rattle.commit_images.specs.Scene.{Mounted};
-ghost use Rattle.volume_calls.specs.Between.{Between, IsBetween, IsDiskAt};
+ghost use Rattle.volume_calls.specs.Between.{Between, IsBetween, IsDiskAt, TellsStill};
 ghost use Rattle.commit_images.specs.Scene.{Happening};
 ghost use Rattle.volume_calls.specs.Calls.{IsCalled, IsLeft};
 ghost use Rattle.volume_calls.specs.Turns.{HandsBatch, HasCommitBack, IsCommitted, MayCommit};
@@ -18,7 +18,9 @@ use flat_model::{Answer, Request};
 use std::alloc::Global;
 
 /// Makes a call of a caller, 1 to 16, from its begin to its end, and says its answer: an operation in its limits, or a sync.
-/// A full commit that it has to run is written to the disk meanwhile (own; after btrfs_sync_fs of fs/btrfs/super.c).
+/// A full commit that it has to run is written to the disk meanwhile. An operation answers that there is no space only where
+/// it needs more blocks than are free behind a full commit: more than all but 82 and those in use, which are few
+/// (own; after btrfs_sync_fs of fs/btrfs/super.c).
 ///
 /// # Errors
 ///
@@ -44,12 +46,13 @@ pub fn call<C: Core, D: Disk>(
         × IsDiskAt (D.told disk.new) (D.faults disk.new) next) }
     ensures left { (mounted : Mounted) (at : Between) → IsBetween (C.has core.old) (C.size core.old) (C.marks core.old) device.old (D.count disk.old) mounted at
         → IsDiskAt (D.told disk.old) (D.faults disk.old) at → OnErr result ((next : Between) × IsLeft mounted caller request at next
-        × IsDiskAt (D.told disk.new) (D.faults disk.new) next) }
+        × C.has core.new mounted next.scene × IsDiskAt (D.told disk.new) (D.faults disk.new) next) }
     ensures seals { C.seals core.new ≤ C.seals core.old + 1 }
     ensures core_size { C.size core.new ≡ C.size core.old }
     ensures fsid { C.fsid core.new ≡ C.fsid core.old }
     ensures size { D.count disk.new ≡ D.count disk.old }
     ensures counted { D.faults disk.old ≤ D.faults disk.new }
+    ensures tells { TellsStill (D.told disk.old) (D.told disk.new) }
 {
     let mut call = Call::start(caller, request);
     match call.step(alloc, core, None)? {
@@ -92,12 +95,13 @@ fn commit<C: Core, D: Disk>(
     ensures left { (mounted : Mounted) (at now : Between) (happenings : List Happening)
         → MayCommit (C.has core.old) (C.size core.old) (C.marks core.old) device.old (D.count disk.old) mounted call at now happenings
         → IsDiskAt (D.told disk.old) (D.faults disk.old) now → OnErr result ((next : Between) × IsLeft mounted call.caller call.request at next
-        × IsDiskAt (D.told disk.new) (D.faults disk.new) next) }
+        × C.has core.new mounted next.scene × IsDiskAt (D.told disk.new) (D.faults disk.new) next) }
     ensures seals { C.seals core.new ≤ C.seals core.old + 1 }
     ensures core_size { C.size core.new ≡ C.size core.old }
     ensures fsid { C.fsid core.new ≡ C.fsid core.old }
     ensures size { D.count disk.new ≡ D.count disk.old }
     ensures counted { D.faults disk.old ≤ D.faults disk.new }
+    ensures tells { TellsStill (D.told disk.old) (D.told disk.new) }
 {
     let next = call.step(alloc, core, None)?;
     let batch = batch_of(next);
@@ -126,7 +130,8 @@ fn end<C: Core>(
         × (next.told ≡ now.told) × (next.faults ≡ now.faults)) }
     ensures left { (device : Device) (count : ℕ) (mounted : Mounted) (at now : Between) (happenings : List Happening)
         → HasCommitBack (C.has core.old) (C.out core.old) (C.size core.old) (C.marks core.old) device count mounted call at now happenings outcome
-        → OnErr result ((next : Between) × IsLeft mounted call.caller call.request at next × (next.told ≡ now.told) × (next.faults ≡ now.faults)) }
+        → OnErr result ((next : Between) × IsLeft mounted call.caller call.request at next × C.has core.new mounted next.scene
+        × (next.told ≡ now.told) × (next.faults ≡ now.faults)) }
     ensures seals { C.seals core.new ≡ C.seals core.old }
     ensures core_size { C.size core.new ≡ C.size core.old }
     ensures fsid { C.fsid core.new ≡ C.fsid core.old }
@@ -141,16 +146,17 @@ fn end<C: Core>(
 /// The last turn of an operation that was short, once its own full commit has covered it.
 fn try_again<C: Core>(alloc: Global, core: &mut C, mut call: Call) -> Result<Answer, OutOfMemory>
     requires may { (device : Device) × (count : ℕ) × (mounted : Mounted) × (at : Between) × (now : Between) × (happenings : List Happening)
-        × IsCommitted (C.has core.old) (C.size core.old) (C.marks core.old) device count mounted call at now happenings }
+        × IsCommitted (C.has core.old) (C.size core.old) (length (C.in_use core.old)) (C.marks core.old) device count mounted call at now happenings }
     requires more { C.seals core.old + 1 < 2 ^ 64 }
     ensures called { (device : Device) (count : ℕ) (mounted : Mounted) (at now : Between) (happenings : List Happening)
-        → IsCommitted (C.has core.old) (C.size core.old) (C.marks core.old) device count mounted call at now happenings
+        → IsCommitted (C.has core.old) (C.size core.old) (length (C.in_use core.old)) (C.marks core.old) device count mounted call at now happenings
         → IfOk result (λ answer. (next : Between) × IsCalled mounted call.caller call.request answer at next
         × IsBetween (C.has core.new) (C.size core.new) (C.marks core.new) device count mounted next
         × (next.told ≡ now.told) × (next.faults ≡ now.faults)) }
     ensures left { (device : Device) (count : ℕ) (mounted : Mounted) (at now : Between) (happenings : List Happening)
-        → IsCommitted (C.has core.old) (C.size core.old) (C.marks core.old) device count mounted call at now happenings
-        → OnErr result ((next : Between) × IsLeft mounted call.caller call.request at next × (next.told ≡ now.told) × (next.faults ≡ now.faults)) }
+        → IsCommitted (C.has core.old) (C.size core.old) (length (C.in_use core.old)) (C.marks core.old) device count mounted call at now happenings
+        → OnErr result ((next : Between) × IsLeft mounted call.caller call.request at next × C.has core.new mounted next.scene
+        × (next.told ≡ now.told) × (next.faults ≡ now.faults)) }
     ensures seals { C.seals core.new ≡ C.seals core.old }
     ensures core_size { C.size core.new ≡ C.size core.old }
     ensures fsid { C.fsid core.new ≡ C.fsid core.old }

@@ -1,8 +1,9 @@
 -- What a volume that has just been mounted keeps.
-use Rattle.std.proofs.Common.{◌≡◌, ◌≤◌, ◌+◌, ℕ, [], Option, Some, None, refl, sym, ap, subst, ◌∙◌, arith}
+use Rattle.std.proofs.Common.{◌≡◌, [], Option, None, refl, sym, ap, subst, ◌∙◌, arith}
 use Rattle.blk_base.specs.Bytes.{Image}
 use Rattle.block_table.specs.declared.tree.Tree.{Tree}
-use Rattle.commit_history.specs.State.{FullCommit, State, mounted_state}
+use Rattle.commit_history.specs.declared.event.Event.TheVariants as event
+use Rattle.commit_history.specs.State.{FullCommit, mounted_state}
 use Rattle.commit_images.specs.Scene.{Commit, first_scene}
 use Rattle.commit_callers.specs.GoWith.{GoWith}
 use Rattle.commit_blocks.specs.Keeps.{KeepsBlocks}
@@ -10,6 +11,7 @@ use Rattle.disk_model.specs.Disk.{Held}
 use Rattle.flat_model.specs.Volume.{RunVolume, Volume as FlatVolume, mounted as run_begun}
 use Rattle.volume_core.specs.declared.volume.Volume.{Volume}
 use Rattle.volume_core.specs.Keeps.{HasSpares, IsVolume, RunsAlike, running_count}
+use Rattle.volume_core.proofs.JustSealed.{none_last}
 
 current_at_mount : (volume : FlatVolume) → (mounted_state volume).current ≡ run_begun volume
 unfolding mounted_state
@@ -32,4 +34,5 @@ begun new image run volume held commit is keeps callers none failures spares = r
   failures = failures ∙ sym (failures_at_mount volume);
   counted = let count : running_count new.kept.sealed ≡ 0 = ap running_count none in omega (arith, failures, count);
   spares = subst (λ (o : Option Tree). HasSpares o new.spares) (sym none) spares;
+  just = λ caller sealed. absurd (none_last sealed.0 (event.SealFull caller) sealed.1);
 }

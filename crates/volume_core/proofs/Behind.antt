@@ -1,10 +1,11 @@
 -- What a volume keeps behind an event that hands out nothing.
-use Rattle.std.proofs.Common.{◌≡◌, ◌≢◌, ◌≤◌, ◌+◌, ℕ, Bool, true, false, cond, List, [], ◌∷◌, ◌++◌, Option, Some, None, nat_eq, refl, sym, ap, subst, ◌∙◌, arith, inl, inr}
+use Rattle.std.proofs.Common.{◌≡◌, ◌≤◌, ℕ, Bool, cond, List, [], ◌∷◌, ◌++◌, Option, Some, None, refl, sym, ap, subst, ◌∙◌, arith}
 use Rattle.std.proofs.lemmas.Bool.{eq-eqb}
 use Rattle.blk_base.specs.Bytes.{Image}
 use Rattle.block_table.specs.declared.tree.Tree.{Tree}
 use Rattle.flat_model.specs.Volume.{Volume as FlatVolume}
 use Rattle.commit_history.specs.declared.event.Event.{Event}
+use Rattle.commit_history.specs.declared.event.Event.TheVariants as event
 use Rattle.commit_history.specs.Effects.{after, full_without}
 use Rattle.commit_history.specs.Legal.{HoldsFull, MaySealFull}
 use Rattle.commit_history.specs.State.{FullCommit, State}
@@ -12,13 +13,15 @@ use Rattle.commit_history.specs.Survival.{next_volumes, volume_by_root}
 use Rattle.commit_images.specs.Scene.{Commit, Comes, Mounted, Nothing, Scene, batch_after, scene_after}
 use Rattle.commit_images.proofs.Behind.{state_behind}
 use Rattle.commit_core.specs.Coming.{state_of}
+use Rattle.commit_core.specs.Few.{IsJustSealed}
 use Rattle.commit_callers.specs.GoWith.{GoWith}
 use Rattle.commit_blocks.specs.Keeps.{IsTurn, KeepsBlocks}
 use Rattle.commit_blocks.specs.Steps.{IsRunning}
 use Rattle.commit_blocks.proofs.SameScene.{same_blocks}
 use Rattle.volume_core.specs.declared.volume.Volume.{Volume}
 use Rattle.volume_core.specs.declared.volume.Spares.{Spares}
-use Rattle.volume_core.specs.Keeps.{HasSpares, IsVolume, RunsAlike, running_count}
+use Rattle.volume_core.specs.Keeps.{HasSpares, IsJustOut, IsVolume, RunsAlike, running_count}
+use Rattle.volume_core.proofs.JustSealed.{same_last}
 
 -- ---- the turn of the full commit
 
@@ -88,14 +91,18 @@ module _ (old new : Volume) (mounted : Mounted) (scene : Scene) (came : Event) (
   behind : state_of mounted next ≡ after before came
   behind = state_behind (Rattle.commit_history.specs.State.mounted_state mounted.volume) scene.events came
 
+  no_seal_last : ((by : ℕ) → came ≡ event.SealFull by → ⊥) → (caller : ℕ) → IsJustSealed next caller → IsJustOut new.kept
+  no_seal_last other caller sealed = absurd (other caller (same_last scene.events sealed.0 came (event.SealFull caller) sealed.1))
+
   batch_same : (after before came).full ≡ before.full → next.batch ≡ scene.batch
   batch_same same = batch_stays scene.batch (state_of mounted next) (λ none.
       let was : before.full ≡ None = sym same ∙ sym (ap (λ (s : State). s.full) behind) ∙ none in
       quiet_batch old mounted.image scene old.kept.sealed h.kept.turn (none_runs before.full old.kept.sealed h.turn was))
 
-  pub event_goes : (after before came).full ≡ before.full → (after before came).failures ≡ before.failures → new.kept.sealed ≡ old.kept.sealed → new.failures ≡ old.failures → new.seals ≡ old.seals → new.spares ≡ old.spares
+  -- and is no seal
+  pub event_goes : ((by : ℕ) → came ≡ event.SealFull by → ⊥) → (after before came).full ≡ before.full → (after before came).failures ≡ before.failures → new.kept.sealed ≡ old.kept.sealed → new.failures ≡ old.failures → new.seals ≡ old.seals → new.spares ≡ old.spares
       → KeepsBlocks new.kept mounted.image (after before came).current scene → GoWith new.callers mounted.volume (scene.events ++ came ∷ []) → IsVolume new mounted next
-  event_goes full failed sealed failures seals spares kept callers = record {
+  event_goes other full failed sealed failures seals spares kept callers = record {
     kept = subst (λ (s : State). KeepsBlocks new.kept mounted.image s.current next) (sym behind)
         (same_blocks new.kept mounted.image (after before came).current scene next (record { found = refl; batch = batch_same full; progress = refl; handed = refl }) kept);
     callers = callers;
@@ -106,12 +113,13 @@ module _ (old new : Volume) (mounted : Mounted) (scene : Scene) (came : Event) (
     failures = failures ∙ h.failures ∙ sym failed ∙ sym (ap (λ (s : State). s.failures) behind);
     counted = let was = h.counted in let count = ap running_count sealed in omega (arith, was, count, failures, seals);
     spares = subst (λ (o : Option Spares). HasSpares new.kept.sealed o) (sym spares) (subst (λ (o : Option Tree). HasSpares o old.spares) (sym sealed) h.spares);
+    just = no_seal_last other;
   }
 
   -- an event that ends the full commit
-  pub ends_goes : (after before came).full ≡ None → new.kept.sealed ≡ None → new.failures ≡ (after before came).failures → new.failures ≤ new.seals → HasSpares None new.spares
+  pub ends_goes : ((by : ℕ) → came ≡ event.SealFull by → ⊥) → (after before came).full ≡ None → new.kept.sealed ≡ None → new.failures ≡ (after before came).failures → new.failures ≤ new.seals → HasSpares None new.spares
       → KeepsBlocks new.kept mounted.image (after before came).current next → GoWith new.callers mounted.volume (scene.events ++ came ∷ []) → IsVolume new mounted next
-  ends_goes full sealed failures counted spares kept callers = record {
+  ends_goes other full sealed failures counted spares kept callers = record {
     kept = subst (λ (s : State). KeepsBlocks new.kept mounted.image s.current next) (sym behind) kept;
     callers = callers;
     turn =
@@ -120,6 +128,7 @@ module _ (old new : Volume) (mounted : Mounted) (scene : Scene) (came : Event) (
     failures = failures ∙ sym (ap (λ (s : State). s.failures) behind);
     counted = let count = ap running_count sealed in omega (arith, counted, count);
     spares = subst (λ (o : Option Tree). HasSpares o new.spares) (sym sealed) spares;
+    just = no_seal_last other;
   }
 
   -- and its commit runs no more

@@ -1,6 +1,12 @@
 -- What the seal of a volume hands out, and what the volume keeps behind it.
-use Rattle.std.proofs.Common.{◌≡◌, ◌≤◌, ◌+◌, ℕ, List, [], ◌∷◌, ◌++◌, length, Option, Some, None, refl, sym, ap, subst, ◌∙◌, arith}
+use Rattle.std.proofs.Common.{◌≡◌, ◌+◌, ℕ, List, [], ◌∷◌, ◌++◌, length, Option, Some, None, refl, sym, ap, subst, ◌∙◌, arith}
+use Rattle.std.specs.Prelude.{Contains}
+use Rattle.std.proofs.lemmas.List.{length-map}
+use Rattle.blk_base.specs.declared.key.Addr.{Addr}
 use Rattle.block_table.specs.declared.batch.Batch.{Batch}
+use Rattle.block_table.specs.declared.state.SlotState.TheVariants.{Free, LetGo, Sealed}
+use Rattle.block_table.specs.Slot.{BlockSlot}
+use Rattle.block_table.specs.TreeIn.{block_at}
 use Rattle.block_table.specs.declared.tree.Tree.{Tree}
 use Rattle.commit_history.specs.declared.event.Event.TheVariants as event
 use Rattle.commit_history.specs.Effects.{after}
@@ -14,12 +20,19 @@ use Rattle.commit_core.specs.Sealed.{HavePlaces, IsSealedFull, SaysCommit}
 use Rattle.commit_callers.specs.GoWith.{GoWith}
 use Rattle.commit_blocks.specs.Keeps.{KeepsBlocks}
 use Rattle.commit_blocks.specs.Steps.{IsKeptSealed, IsListOut}
-use Rattle.commit_blocks.proofs.SealKeeps.{commit_of, seal_keeps}
+use Rattle.commit_blocks.proofs.Fates.{AreBothFree, IsNew, Stays, WasDirty, fate}
+use Rattle.commit_blocks.proofs.Running.{running_length}
+use Rattle.commit_blocks.proofs.SealKeeps.{commit_of, in_addresses, seal_keeps}
 use Rattle.commit_blocks.proofs.SealSays.{hands_out, list_out, of_commit, places, ready, says, stands}
+use Rattle.flat_model.proofs.Maps.{some_same}
 use Rattle.flat_model.specs.Volume.{RunVolume, volume_of}
+use Rattle.table_commit.specs.Commit.{addresses_of}
+use Rattle.tree_range.specs.Shape.{tree_items}
+use Rattle.volume_image.specs.Roots.{next_generation}
+use Rattle.volume_seal.specs.Roots.{state_entry}
 use Rattle.volume_core.specs.declared.volume.Spares.{Spares}
 use Rattle.volume_core.specs.declared.volume.Volume.{Volume}
-use Rattle.volume_core.specs.Keeps.{HasSpares, IsVolume, RunsAlike, running_count}
+use Rattle.volume_core.specs.Keeps.{HasSpares, IsJustOut, IsVolume, RunsAlike, running_count}
 use Rattle.volume_core.proofs.Behind.{none_out}
 use Rattle.volume_core.proofs.Came.{sealed_current, sealed_failures, sealed_full}
 
@@ -39,6 +52,23 @@ module _ (old new : Volume) (mounted : Mounted) (scene : Scene) (caller : ℕ) (
   behind : state_of mounted next ≡ after before (event.SealFull caller)
   behind = state_behind (mounted_state mounted.volume) scene.events (event.SealFull caller)
 
+  -- what was let go before it is noted, and nothing else is
+  was_gone : (at : ℕ) → (block_at new.kept.table at).state ≡ LetGo → (block_at old.kept.table at).state ≡ LetGo
+  was_gone at gone = elim (fate old.kept new.kept mounted.image before.current scene batch.superblock.value batch.blocks h.kept none s at) [
+    | IsNew here free now ↦ absurd (let w : Sealed ≡ LetGo = sym now ∙ gone in cc)
+    | WasDirty there dirty now ↦ absurd (let w : Sealed ≡ LetGo = sym now ∙ gone in cc)
+    | Stays same not_root clean ↦ ap (λ (slot : BlockSlot). slot.state) (sym same) ∙ gone
+    | AreBothFree was behind ↦ absurd (let w : Free ≡ LetGo = sym behind ∙ gone in cc)
+  ]
+
+  just_out : IsJustOut new.kept
+  just_out = record {
+    let_go = λ at gone. subst (λ (l : List Addr). Contains (addresses_of l) at) (sym s.noted) (in_addresses old.kept.table at (was_gone at gone));
+    roots = λ root is.
+        ap (λ (tree : Tree). length (tree_items new.kept.table tree)) (some_same root s.root (sym is ∙ s.is_out)) ∙ ap length s.sealed.made.items
+        ∙ length-map old.kept.states.items (state_entry new.kept.table) ∙ sym (running_length (next_generation old.kept.generation) old.kept.states.items) ∙ ap length (sym s.states);
+  }
+
   seal_comes : new.failures ≡ old.failures → new.seals ≡ old.seals + 1 → new.spares ≡ None → GoWith new.callers mounted.volume (scene.events ++ event.SealFull caller ∷ []) → IsVolume new mounted next
   seal_comes failures seals spares callers = record {
     kept =
@@ -55,6 +85,7 @@ module _ (old new : Volume) (mounted : Mounted) (scene : Scene) (caller : ℕ) (
         let zero : running_count old.kept.sealed ≡ 0 = ap running_count none in
         omega (arith, was, one, zero, failures, seals);
     spares = subst (λ (o : Option Tree). HasSpares o new.spares) (sym s.is_out) spares;
+    just = λ by last. just_out;
   }
 
   pub is_sealed_full : new.failures ≡ old.failures → new.seals ≡ old.seals + 1 → new.spares ≡ None → GoWith new.callers mounted.volume (scene.events ++ event.SealFull caller ∷ []) → IsSealedFull (IsVolume new) mounted scene caller batch

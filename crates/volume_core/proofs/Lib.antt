@@ -5,3 +5,6 @@ pub mod Came
 pub mod Handing
 pub mod Operated
 pub mod Begun
+pub mod Accounted
+pub mod JustSealed
+pub mod Few

@@ -1,13 +1,11 @@
 -- The event of an operation, where it was short and where it was carried out.
-use Rattle.std.proofs.Common.{◌≡◌, ◌≢◌, ◌≤◌, ◌<◌, ◌+◌, ◌-◌, ℕ, Bool, List, [], ◌∷◌, ◌++◌, length, Result, Ok, Err, refl, sym, ap, subst, ◌∙◌, arith}
-use Rattle.std.specs.Prelude.{IfOk}
+use Rattle.std.proofs.Common.{◌≡◌, ◌≤◌, ◌<◌, ◌+◌, ◌-◌, ℕ, Bool, List, [], ◌∷◌, ◌++◌, length, refl, sym, ap, subst, ◌∙◌, arith}
 use Rattle.block_table.specs.declared.tree.SubState.{SubState}
 use Rattle.block_table.specs.Table.{Table, free_blocks}
 use Rattle.commit_history.specs.declared.event.Event.TheVariants as event
 use Rattle.commit_history.specs.declared.event.OpEnd.{OpEnd}
 use Rattle.commit_history.specs.declared.event.OpEnd.TheVariants as ends
 use Rattle.commit_history.specs.Legal.{IsAnswered, IsOpEnd, IsShort, shown}
-use Rattle.commit_history.specs.State.{State}
 use Rattle.commit_images.specs.Scene.{Mounted, Scene}
 use Rattle.commit_core.specs.Coming.{IsOpDone, state_of}
 use Rattle.commit_callers.specs.GoWith.{GoWith}
@@ -22,7 +20,6 @@ use Rattle.flat_model.specs.Step.{IsInLimits, IsSpelled, step}
 use Rattle.flat_model.specs.Volume.{RunVolume}
 use Rattle.table_volume.specs.Running.{GiveVolume}
 use Rattle.table_volume.proofs.States.{volume_sound}
-use Rattle.volume_ops.specs.Done.{room_of}
 use Rattle.volume_ops.specs.Indexes.{made_between, next_index_of}
 use Rattle.volume_ops.proofs.Required.{room_covers}
 use Rattle.volume_ops.proofs.Told.{made_told}

@@ -1,10 +1,10 @@
 -- How many blocks are in use, by how many are Free.
-use Rattle.std.proofs.Common.{◌≡◌, ◌≤◌, ◌<◌, ◌≢◌, ◌+◌, ◌-◌, ◌*◌, ◌⊎◌, ◌&&◌, ◌==◌, ℕ, Bool, true, false, cond, not, List, [], ◌∷◌, length, nat_eq, refl, sym, ap, subst, ◌∙◌, arith, inl, inr}
+use Rattle.std.proofs.Common.{◌≡◌, ◌≤◌, ◌<◌, ◌≢◌, ◌+◌, ◌-◌, ◌*◌, ◌⊎◌, ◌&&◌, ◌==◌, ℕ, Bool, true, false, cond, not, List, [], ◌∷◌, length, refl, sym, ap, ◌∙◌, arith, inl, inr}
 use Rattle.std.specs.Bool.{nat_le, nat_lt}
 use Rattle.std.proofs.lemmas.Bool.{cases_Bool, eq-eqb, eqb-true, leb-false, leb-true, ltb-false, ltb-true, true≢false}
 use Rattle.block_table.specs.Slot.{BlockSlot, is_free}
-use Rattle.block_table.specs.Table.{Table, free_blocks, free_from, free_one, is_free_block}
-use Rattle.volume_core.specs.InUse.{in_use, is_used, usable, used_from}
+use Rattle.block_table.specs.Table.{Table, free_blocks, free_from, free_one}
+use Rattle.volume_core.specs.InUse.{in_use, usable, used_from}
 
 -- one where a volume may use the block of this number
 abbrev may_use : ℕ → ℕ

@@ -1,5 +1,5 @@
 -- A call of the device changes nothing of what a volume keeps.
-use Rattle.std.proofs.Common.{◌≡◌, ℕ, Bool, List, [], ◌∷◌, Option, Some, None, refl, sym, subst}
+use Rattle.std.proofs.Common.{◌≡◌, ℕ, Bool, List, [], ◌∷◌, Option, Some, None, refl, sym, subst, ◌∙◌}
 use Rattle.commit_history.specs.declared.event.Event.{Event}
 use Rattle.commit_history.specs.Effects.{state_of as state_behind}
 use Rattle.commit_core.specs.Coming.{IsDeviceCall, state_of}
@@ -39,4 +39,5 @@ device_goes_on volume mounted scene happening h call may =
       failures = subst (λ (events : List Event). volume.failures ≡ (state_behind mounted.volume events).failures) same h.failures;
       counted = h.counted;
       spares = h.spares;
+      just = λ caller sealed. h.just caller (sealed.0, same ∙ sealed.1);
     }

@@ -1,6 +1,6 @@
 //! A volume's events, each a method, and the readers that their callers ask.
 use crate::counting::count_used;
-use crate::ending::{end_failed, marks_failed};
+use crate::ending::{end_done, end_failed, marks_failed};
 use crate::spelled::read_op;
 use crate::volume::{Spares, Volume};
 use blk_base::{Marks, OutOfMemory};
@@ -102,7 +102,7 @@ impl Core for Volume {
             superblock,
             ..
         } = batch;
-        self.kept.finish(blocks);
+        end_done(&mut self.kept, blocks);
         self.callers.done(caller);
         self.failures = 0;
         self.marks = Marks {

@@ -1,4 +1,4 @@
-use Rattle.std.proofs.Common.{◌≡◌, ◌∙◌, ◌<◌, ◌++◌, ℕ, length, length-append, drop, map, take, slice_index_or, sym, ap, arith}
+use Rattle.std.proofs.Common.{◌<◌, length, length-append, drop, map, take, slice_index_or, ap, arith}
 use Rattle.std.proofs.lemmas.List.{get_or_default, length-drop, length-map, length-take}
 use Rattle.std.proofs.lemmas.List.Edits.{map_over_more}
 use Rattle.block_table.specs.declared.tree.SubState.{SubState}

@@ -13,6 +13,7 @@ returns-in_err-answer-clause-ran g c = λ mounted at between disk.
       it.0,
       subst (λ (r : Result (Unit {0}) RunFault). HasRunLine mounted c.args.line at it.0 taken taken r) (sym is) (LineLeft c.plain_of-caller.result.0 c.plain_of-caller.result.1 c.plain_of-caller.ensures it.1 refl),
       it.2,
+      it.3,
       none_at_err c.from_residual.result faults.OutOfMemory _ is,
     )
 
@@ -24,6 +25,7 @@ returns-in_err-put_answer-clause-ran g c = λ mounted at between disk.
     let now = g.K.Sink.taken c.put_answer.new.to in (
       it.0,
       subst (λ (r : Result (Unit {0}) RunFault). HasRunLine mounted c.args.line at it.0 taken now r) (sym is) (LineCut c.plain_of-caller.result.0 c.plain_of-caller.result.1 c.in_ok-answer.answer c.plain_of-caller.ensures it.1 c.in_err-put_answer.ensures.front),
+      it.2.has,
       it.3,
       none_at_err c.from_residual-in_err-put_answer.result faults.Sink _ is,
     )
@@ -31,4 +33,4 @@ returns-in_err-put_answer-clause-ran g c = λ mounted at between disk.
 pub returns-clause-ran : goal.returns-clause-ran
 returns-clause-ran g c = λ mounted at between disk.
     let it = c.in_ok-answer.ensures.called mounted at between disk in
-    (it.0, LineDone c.plain_of-caller.result.0 c.plain_of-caller.result.1 c.in_ok-answer.answer c.plain_of-caller.ensures it.1 c.in_ok-put_answer.ensures.whole, it.3, it.2)
+    (it.0, LineDone c.plain_of-caller.result.0 c.plain_of-caller.result.1 c.in_ok-answer.answer c.plain_of-caller.ensures it.1 c.in_ok-put_answer.ensures.whole, it.2.has, it.3, it.2)

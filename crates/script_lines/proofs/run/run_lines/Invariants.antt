@@ -1,6 +1,6 @@
 use Rattle.std.proofs.Common.{◌≡◌, ◌≤◌, ◌+◌, ◌++◌, length}
 use Rattle.commit_images.specs.Scene.{Mounted}
-use Rattle.volume_calls.specs.Between.{Between, IsBetween, IsDiskAt}
+use Rattle.volume_calls.specs.Between.{Between, IsBetween, IsDiskAt, TellsStill}
 use Rattle.script_lines.proofs.Running.{AreDone}
 use Rattle.script_lines.proofs.run.run_lines.Given as goal
 
@@ -16,5 +16,6 @@ invariant-loop-line g l = record {
   seals : g.C.Core.seals l.core ≤ g.C.Core.seals l.initial.core + length l.yielded;
   size : g.D.Disk.count l.disk ≡ g.D.Disk.count l.initial.disk;
   counted : g.K.Sink.faults l.initial.to ≤ g.K.Sink.faults l.to;
+  tells : TellsStill (g.D.Disk.told l.initial.disk) (g.D.Disk.told l.disk);
   disk_counted : g.D.Disk.faults l.initial.disk ≤ g.D.Disk.faults l.disk;
 }

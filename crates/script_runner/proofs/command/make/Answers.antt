@@ -1,4 +1,4 @@
-use Rattle.std.proofs.Common.{inl, refl}
+use Rattle.std.proofs.Common.{◌≤◌, ℕ, inl, refl, subst, sym}
 use Rattle.flat_model.specs.Volume.{bare_volume}
 use Rattle.volume_image.specs.Stands.{Stands}
 use Rattle.volume_mkfs.specs.Made.{HasNewSuper, IsOldOrBare}
@@ -6,6 +6,7 @@ use Rattle.volume_mkfs.proofs.Written.{crash_same, crash_weaker}
 use Rattle.script_runner.specs.Mkfs.{HasVolumeOf, IsOldOrMade}
 use Rattle.script_runner.proofs.CommandLemmas.{if_told_both}
 use Rattle.script_runner.proofs.MadeLemmas.{old_or_made}
+use Rattle.script_runner.proofs.Settled.{made_fits, made_settled, told_long}
 use Rattle.script_runner.proofs.command.make.Goals as goal
 
 pub returns-in_default-clause-range : goal.returns-in_default-clause-range
@@ -40,3 +41,13 @@ pub returns-in-Err-OutOfMemory-clause-crash : goal.returns-in-Err-OutOfMemory-cl
 returns-in-Err-OutOfMemory-clause-crash g c =
     crash_weaker (g.D.Disk.told c.args.disk.now) (g.D.Disk.told c.mkfs.new.disk) (IsOldOrBare c.in-Some.request.subvolume_count) (IsOldOrMade c.args.subs.now)
     (old_or_made c.args.subs.now c.in-Some.request.subvolume_count c.in-Some.ensures.some.subvolumes_are) c.mkfs.ensures.crash
+
+pub returns-in-Ok-clause-settled : goal.returns-in-Ok-clause-settled
+returns-in-Ok-clause-settled g c = λ _.
+    let request = c.in-Some.request in
+    let disk = c.mkfs.new.disk in
+    made_settled request.fsid request.block_count request.subvolume_count (g.D.Disk.seen disk) (g.D.Disk.lost c.args.disk.now) (g.D.Disk.lost disk) (g.D.Disk.told c.args.disk.now) (g.D.Disk.told disk)
+    c.in-Ok.ensures.made (g.met.D.Disk.lost_as_told c.args.disk.now) (g.met.D.Disk.lost_as_told disk)
+    (told_long request.block_count (g.D.Disk.count disk) (g.D.Disk.seen disk) (g.D.Disk.told disk)
+    (subst (λ (n : ℕ). request.block_count ≤ n) (sym c.mkfs.ensures.size) (made_fits c.mkfs.result _ _ (g.D.Disk.count c.args.disk.now) request.block_count request.subvolume_count c.in-Ok.is c.mkfs.ensures.range.1)) (g.met.D.Disk.reads_as_told disk) (g.met.D.Disk.reads_all disk))
+    (g.met.D.Disk.reads_as_left disk)

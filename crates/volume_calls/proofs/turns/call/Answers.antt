@@ -8,7 +8,7 @@ use Rattle.flat_model.specs.declared.request.Request.{Request}
 use Rattle.volume_calls.specs.Between.{Between, IsBetween, IsDiskAt}
 use Rattle.volume_calls.specs.Calls.{IsCalled, IsLeft}
 use Rattle.volume_calls.specs.Turns.{MayCommit}
-use Rattle.volume_calls.proofs.Begun.{answered, may_begin, moved, no_wait, no_work, same_disk}
+use Rattle.volume_calls.proofs.Begun.{answered, left_at_once, may_begin, moved, no_wait, no_work, on_err, same_disk}
 use Rattle.volume_calls.proofs.Happened.{with_event}
 use Rattle.volume_calls.proofs.turns.call.Goals as goal
 
@@ -148,8 +148,14 @@ returns-in-Moved-clause-left g c = λ mounted at between disk.
     let waits = subst (λ (m : Marks). MayCommit Has (g.C.Core.size c.step.new.core) m device count mounted next at now list) (sym c.step.ensures.marks)
     (subst (λ (n : ℕ). MayCommit Has n marks device count mounted next at now list) (sym c.step.ensures.size) one) in
     let there = same_disk (g.D.Disk.told c.args.disk.now) (g.D.Disk.faults c.args.disk.now) at now refl refl disk in
-    subst (λ (r : Request). OnErr c.commit.result ((last : Between) × IsLeft mounted c.args.caller r at last
+    subst (λ (r : Request). OnErr c.commit.result ((last : Between) × IsLeft mounted c.args.caller r at last × g.C.Core.has c.commit.new.core mounted last.scene
     × IsDiskAt (g.D.Disk.told c.commit.new.disk) (g.D.Disk.faults c.commit.new.disk) last)) (c.step.ensures.request ∙ c.start-call.ensures.request)
-    (subst (λ (by : ℕ). OnErr c.commit.result ((last : Between) × IsLeft mounted by next.request at last
+    (subst (λ (by : ℕ). OnErr c.commit.result ((last : Between) × IsLeft mounted by next.request at last × g.C.Core.has c.commit.new.core mounted last.scene
     × IsDiskAt (g.D.Disk.told c.commit.new.disk) (g.D.Disk.faults c.commit.new.disk) last)) (c.step.ensures.caller ∙ c.start-call.ensures.caller)
     (c.commit.ensures.left mounted at now list waits there))
+
+pub returns-in_err-answer-clause-left : goal.returns-in_err-answer-clause-left
+returns-in_err-answer-clause-left g c = λ mounted at between disk.
+    on_err c.from_residual.result (λ x. IsLeft mounted c.args.caller c.args.request at x) (λ x. g.C.Core.has c.step.new.core mounted x.scene)
+    (λ x. IsDiskAt (g.D.Disk.told c.args.disk.now) (g.D.Disk.faults c.args.disk.now) x) at
+    (left_at_once mounted c.args.caller c.args.request at) (c.in_err-answer.ensures.memory mounted at.scene between.has) disk

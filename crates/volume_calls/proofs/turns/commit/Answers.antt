@@ -1,5 +1,8 @@
 use Rattle.std.proofs.Common.{◌≡◌, subst, sym}
 use Rattle.volume_calls.specs.Turns.{HandsBatch}
+use Rattle.volume_calls.specs.Between.{IsDiskAt}
+use Rattle.volume_calls.specs.Calls.{IsLeft}
+use Rattle.volume_calls.proofs.Begun.{left_under, on_err}
 use Rattle.volume_calls.proofs.Finishing.{called_so, leaves, left_so, may_seal, seals_alone, turn_back}
 use Rattle.volume_calls.proofs.turns.commit.Goals as goal
 
@@ -57,5 +60,12 @@ returns-clause-left g c mounted at now happenings may disk =
     c.finish-result.result (g.D.Disk.faults c.args.disk.now) (g.D.Disk.faults c.finish-result.new.disk) disk.faults c.finish-result.ensures.cause
     (leaves _ _ c.batch_of-batch.result c.finish-result.result c.finish-result.ensures.ok c.finish-result.ensures.tried c.finish-result.ensures.untried) (g.met.C.Core.goes_on c.step.new.core)
     (g.D.Disk.told c.args.disk.now) (g.D.Disk.told c.finish-result.new.disk) disk.told c.finish-result.ensures.goes_on in
-    left_so mounted c.args.call c.step.new.self at back.later (g.D.Disk.told c.finish-result.new.disk) (g.D.Disk.faults c.finish-result.new.disk) c.end.result c.step.ensures.caller c.step.ensures.request back.told back.faults_are
+    left_so (λ x. g.C.Core.has c.end.new.core mounted x.scene) mounted c.args.call c.step.new.self at back.later (g.D.Disk.told c.finish-result.new.disk) (g.D.Disk.faults c.finish-result.new.disk) c.end.result c.step.ensures.caller c.step.ensures.request back.told back.faults_are
     (c.end.ensures.left _ (g.D.Disk.count c.finish-result.new.disk) mounted at back.later back.made back.back)
+
+pub returns-in_err-next-clause-left : goal.returns-in_err-next-clause-left
+returns-in_err-next-clause-left g c mounted at now happenings may disk =
+    on_err c.from_residual.result (λ x. IsLeft mounted c.args.call.caller c.args.call.request at x) (λ x. g.C.Core.has c.step.new.core mounted x.scene)
+    (λ x. IsDiskAt (g.D.Disk.told c.args.disk.now) (g.D.Disk.faults c.args.disk.now) x) now
+    (left_under (g.C.Core.has c.args.core.now) (g.C.Core.size c.args.core.now) _ (g.D.Disk.count c.args.disk.now) mounted c.args.call at now happenings may.under)
+    (c.in_err-next.ensures.memory mounted now.scene may.under.has) disk

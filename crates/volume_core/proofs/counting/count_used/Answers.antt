@@ -1,4 +1,4 @@
-use Rattle.std.proofs.Common.{◌≡◌, ◌≤◌, ◌+◌, ap, length, ℕ, arith}
+use Rattle.std.proofs.Common.{◌≡◌, ◌+◌, ap, length, arith}
 use Rattle.block_table.specs.Table.{free_blocks}
 use Rattle.volume_core.specs.InUse.{in_use, usable}
 use Rattle.volume_core.proofs.Usable.{used_and_free}

@@ -1,5 +1,4 @@
 -- A failed end was tried where the write of the superblock failed, and else it wasn't.
-use Rattle.std.proofs.Common.{◌≡◌, ◌∙◌, true, false, sym}
 use Rattle.volume_core.proofs.Ended.{not_tried, was_tried}
 use Rattle.volume_core.proofs.ending.end_failed.Goals as goal
 

@@ -1,12 +1,10 @@
-use Rattle.std.proofs.Common.{◌≡◌, ◌∙◌, ◌≤◌, ◌+◌, ℕ, Some, length, refl, sym, ap, subst, arith}
+use Rattle.std.proofs.Common.{◌≡◌, ◌∙◌, ◌≤◌, ℕ, length, refl, sym, ap, subst, arith}
 use Rattle.std.specs.Prelude.{vec_capacity}
-use Rattle.block_table.specs.declared.tree.Tree.{Tree}
 use Rattle.block_table.specs.Table.{Table}
 use Rattle.table_commit.specs.Commit.{AreReleasable, AreReleased, NoneOut, addresses_of, allowed_in, settled, with_each}
-use Rattle.tree_frame.specs.Frame.{AreCurrent}
-use Rattle.tree_range.specs.Shape.{IsTree, tree_reach}
 use Rattle.commit_blocks.proofs.Back.{backed}
-use Rattle.commit_blocks.proofs.Finishing.{finish_keeps, mid_current, mid_reach, mid_root, noted_ready, runs_out}
+use Rattle.commit_blocks.proofs.Ends.{ended_now, is_ended_now}
+use Rattle.commit_blocks.proofs.Finishing.{finish_keeps, finish_let_go, finish_reached, mid_current, mid_root, noted_ready}
 use Rattle.commit_blocks.proofs.Settling.{back_none, settled_size}
 use Rattle.commit_blocks.proofs.kept.Kept.finish.Goals as goal
 
@@ -60,3 +58,21 @@ returns-clause-keeps c image run scene next keeps written ended =
     let released : AreReleased (with_each settled (backed old.table c.args.list.pairs)) c.release_noted.new.table noted (allowed_in (length (with_each settled (backed old.table c.args.list.pairs)).slots) noted) = subst (λ (t : Table). AreReleased t c.release_noted.new.table noted (allowed_in (length t.slots) noted)) table c.release_noted.ensures.blocks in
     let capacity : length old.table.slots ≤ vec_capacity c.release_noted.new.noted = subst (λ (n : ℕ). length old.table.slots ≤ n) (sym c.release_noted.ensures.room) keeps.found.capacity in
     finish_keeps old image run scene keeps c.args.list c.requires.list c.in-Some.root (sym c.in-Some.ensures.value) c.release_noted.new.table _ released _ next ended (returns-clause-rest c) c.let_go_tree.ensures written refl refl refl c.release_noted.ensures.noted capacity
+
+pub returns-clause-let_go : goal.returns-clause-let_go
+returns-clause-let_go c =
+    let has = c.requires.has in
+    let old = c.args.self.now in
+    let noted = addresses_of old.let_go.items in
+    let table : c.settle_sealed.new.table ≡ with_each settled (backed old.table c.args.list.pairs) = c.settle_sealed.ensures ∙ ap (λ (t : Table). with_each settled t) c.put_back.ensures in
+    let released : AreReleased (with_each settled (backed old.table c.args.list.pairs)) c.release_noted.new.table noted (allowed_in (length (with_each settled (backed old.table c.args.list.pairs)).slots) noted) = subst (λ (t : Table). AreReleased t c.release_noted.new.table noted (allowed_in (length t.slots) noted)) table c.release_noted.ensures.blocks in
+    finish_let_go old has.0 has.1 has.2 has.3 c.args.list c.requires.list c.in-Some.root (sym c.in-Some.ensures.value) c.release_noted.new.table _ released _ (ended_now has.2) (is_ended_now has.2) (returns-clause-rest c) c.let_go_tree.ensures refl
+
+pub returns-clause-reached : goal.returns-clause-reached
+returns-clause-reached c image run scene keeps written commit there at gone =
+    let old = c.args.self.now in
+    let noted = addresses_of old.let_go.items in
+    let table : c.settle_sealed.new.table ≡ with_each settled (backed old.table c.args.list.pairs) = c.settle_sealed.ensures ∙ ap (λ (t : Table). with_each settled t) c.put_back.ensures in
+    let released : AreReleased (with_each settled (backed old.table c.args.list.pairs)) c.release_noted.new.table noted (allowed_in (length (with_each settled (backed old.table c.args.list.pairs)).slots) noted) = subst (λ (t : Table). AreReleased t c.release_noted.new.table noted (allowed_in (length t.slots) noted)) table c.release_noted.ensures.blocks in
+    let capacity : length old.table.slots ≤ vec_capacity c.release_noted.new.noted = subst (λ (n : ℕ). length old.table.slots ≤ n) (sym c.release_noted.ensures.room) keeps.found.capacity in
+    finish_reached old image run scene keeps c.args.list c.requires.list c.in-Some.root (sym c.in-Some.ensures.value) c.release_noted.new.table _ released _ (ended_now scene) (is_ended_now scene) (returns-clause-rest c) c.let_go_tree.ensures written refl refl refl c.release_noted.ensures.noted capacity commit there at gone

@@ -1,10 +1,7 @@
-use Rattle.std.proofs.Common.{◌≡◌, ◌≤◌, ◌∙◌, max, ℕ, Result, Ok, Err, refl, sym, ap, subst, arith, rules}
-use Rattle.block_table.specs.Table.{Table, with_spare}
-use Rattle.blk_base.specs.Bytes.{Image}
-use Rattle.commit_images.specs.Scene.{Scene}
-use Rattle.flat_model.specs.Volume.{RunVolume}
+use Rattle.std.proofs.Common.{sym, subst}
+use Rattle.block_table.specs.Table.{Table}
 use Rattle.commit_blocks.specs.Keeps.{KeepsBlocks}
-use Rattle.commit_blocks.proofs.Spares.{buffers_keep, lists_out, reserved}
+use Rattle.commit_blocks.proofs.Spares.{buffers_keep, reserved}
 use Rattle.commit_blocks.proofs.kept.Kept.reserve.Goals as goal
 
 -- src/buffers.rt:16:5

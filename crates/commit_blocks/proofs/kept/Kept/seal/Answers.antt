@@ -1,9 +1,8 @@
-use Rattle.std.proofs.Common.{◌≡◌, ◌∙◌, ◌≤◌, ◌+◌, ◌-◌, ◌%◌, ◌^◌, ℕ, List, length, refl, sym, ap, subst, arith}
+use Rattle.std.proofs.Common.{◌≡◌, ◌∙◌, ◌-◌, ℕ, List, length, refl, sym, ap, subst, arith}
 use Rattle.std.specs.Prelude.{All}
 use Rattle.blk_base.specs.Superblock.{IsSuper, SuperValue, super_bytes}
 use Rattle.block_table.specs.declared.tree.SubState.{SubState}
 use Rattle.block_table.specs.Table.{Table, with_lists}
-use Rattle.flat_model.specs.Volume.{RunVolume}
 use Rattle.table_volume.specs.Running.{GiveVolume}
 use Rattle.tree_frame.specs.Frame.{TakesAtMost}
 use Rattle.tree_range.specs.Shape.{tree_reach}

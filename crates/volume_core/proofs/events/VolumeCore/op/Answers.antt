@@ -1,7 +1,8 @@
-use Rattle.std.proofs.Common.{◌≡◌, ◌≤◌, ◌+◌, refl, sym, ◌∙◌, arith}
+use Rattle.std.proofs.Common.{refl, ◌∙◌}
 use Rattle.commit_core.specs.Coming.{state_of}
 use Rattle.commit_blocks.specs.Operating.{HasRoomFor}
 use Rattle.volume_core.proofs.Came.{on_err, same_sealed, with_kept}
+use Rattle.volume_core.proofs.JustSealed.{more_just, same_just}
 use Rattle.volume_core.proofs.Operated.{answered_done, given_listed, room_for, short_done}
 use Rattle.volume_core.proofs.events.VolumeCore.op.Goals as goal
 
@@ -22,7 +23,7 @@ returns-then-free-need-clause-came c = λ mounted scene h.
 pub returns-in_err-reserve-clause-memory : goal.returns-in_err-reserve-clause-memory
 returns-in_err-reserve-clause-memory c = λ mounted scene h.
     let old = c.args.self.now in
-    on_err c.from_residual.result (with_kept old c.reserve.new.self mounted scene (same_sealed old.kept c.reserve.new.self c.reserve.ensures.more)
+    on_err c.from_residual.result (with_kept old c.reserve.new.self mounted scene (same_sealed old.kept c.reserve.new.self c.reserve.ensures.more) (more_just old.kept c.reserve.new.self c.reserve.ensures.more)
     (c.reserve.ensures.keeps mounted.image (state_of mounted scene).current scene h.kept) h)
 
 pub operate-requires-clause-given : goal.operate-requires-clause-given
@@ -43,6 +44,8 @@ returns-in_err-answer-clause-memory c = λ mounted scene h.
     let old = c.args.self.now in
     let keeps = c.reserve.ensures.keeps mounted.image (state_of mounted scene).current scene h.kept in
     on_err c.from_residual-in_err-answer.result (with_kept old c.operate.new.self mounted scene (c.operate.ensures.sealed ∙ same_sealed old.kept c.reserve.new.self c.reserve.ensures.more)
+    (λ just. same_just c.reserve.new.self c.operate.new.self c.in_err-answer.ensures.unchanged.0 c.in_err-answer.ensures.unchanged.1 c.operate.ensures.noted c.operate.ensures.sealed
+    (more_just old.kept c.reserve.new.self c.reserve.ensures.more just))
     (c.in_err-answer.ensures.memory mounted.image (state_of mounted scene).current scene keeps) h)
 
 pub returns-clause-came : goal.returns-clause-came
