@@ -139,14 +139,14 @@ none_found ranges (x ∷ xs) h place c = go (λ none. none_found ranges xs none 
 
 -- ---- what stands behind a key
 
-lower_too : (key first low : Key) → key_below key low ≡ true → key_below first low ≡ false → key_below key first ≡ true
+pub lower_too : (key first low : Key) → key_below key low ≡ true → key_below first low ≡ false → key_below key first ≡ true
 lower_too key first low a b = grind (arith, nat_tests)
 
-not_true : (b : Bool) → not b ≡ true → b ≡ false
+pub not_true : (b : Bool) → not b ≡ true → b ≡ false
 not_true true h = sym h
 not_true false h = refl
 
-from_both : (first low : Key) (items : List Item) → key_below first low ≡ false → items_from first items ≡ items_from first (items_from low items)
+pub from_both : (first low : Key) (items : List Item) → key_below first low ≡ false → items_from first items ≡ items_from first (items_from low items)
 from_both first low items above =
     sym (filter_keeps (λ (x : Item). not (key_below x.0 low)) (items_from first items) (λ item c. each item (in_filter (λ (x : Item). not (key_below x.0 first)) items item c).1))
     ∙ filter_swaps (λ (x : Item). not (key_below x.0 low)) (λ (x : Item). not (key_below x.0 first)) items

@@ -1,105 +1,15 @@
 -- The items of a log with that of a range put in are those of the log with the range.
-use Rattle.std.proofs.Common.{◌≡◌, ◌<◌, ◌^◌, ◌&&◌, ◌∙◌, ℕ, Bool, true, false, List, [], ◌∷◌, ◌++◌, Contains, Option, Some, None, nat_eq, filter, flat_map, map, refl, sym, ap, subst, inl, inr, arith}
-use Rattle.std.specs.Prelude.{IsTrue}
-use Rattle.std.proofs.lemmas.Bool.{true≢false}
-use Rattle.blk_base.specs.Items.{InodeValue}
-use Rattle.blk_base.specs.Keys.{inode_item, inode_ref, inode_extref, xattr_item, dir_index, dir_log_index, extent_data}
+use Rattle.std.proofs.Common.{◌≡◌, ◌<◌, ◌^◌, ◌∙◌, List, [], ◌∷◌, None, ℕ, refl, sym, ap, subst, arith}
 use Rattle.blk_base.specs.Leaf.{Item}
 use Rattle.blk_base.specs.Trees.{ItemsRise}
 use Rattle.format_laws.specs.Items.{IsRange-from_read, range_reads_back}
-use Rattle.cow_tree.proofs.Items.{lower, upper, with_rise}
-use Rattle.flat_model.specs.Names.{FlatName, name_set, stands_in}
-use Rattle.logged_volume.specs.FlatLog.{AreDistinct, LogRange, FlatLog}
-use Rattle.volume_image.specs.Subvolume.{Data, data_addresses, item_addresses}
-use Rattle.log_image.specs.LogItems.{AreItemsOfLog, HasItsExtents, IsLogItem, asks_inode, read_or, is_at, inode_in, extent_in_item, pairs_in_item, value_of_item, whole_said, existing_said, names_in_item, names_in, ranges_in_item, ranges_in, entries_in_item, entries_in}
-use Rattle.dir_ranges.specs.Ranges.{PutsARange, log_with, range_bytes, range_key}
-use Rattle.dir_ranges.proofs.Middle.{both_sides, filter_same, find_same, flat_same, in_middle}
-
--- ---- an item of a range says nothing of anything else
-
-and_false : (a b : Bool) → b ≡ false → (a && b) ≡ false
-and_false true b none = none
-and_false false b none = refl
-
-module _ (new : Item) (is_range : new.0.kind ≡ dir_log_index) where
-  other_kind : (kind : ℕ) → nat_eq dir_log_index kind ≡ false → nat_eq new.0.kind kind ≡ false
-  other_kind kind apart = ap (λ (k : ℕ). nat_eq k kind) is_range ∙ apart
-
-  not_at : (ino kind : ℕ) → nat_eq dir_log_index kind ≡ false → is_at ino kind new ≡ false
-  not_at ino kind apart = and_false (nat_eq new.0.objectid ino) (nat_eq new.0.kind kind) (other_kind kind apart)
-
-  no_names : names_in_item new ≡ []
-  no_names = rw (other_kind inode_ref refl, other_kind inode_extref refl) refl
-
-  no_entries : entries_in_item new ≡ []
-  no_entries = rw (other_kind dir_index refl) refl
-
-  no_addresses : item_addresses new ≡ []
-  no_addresses = rw (other_kind extent_data refl) refl
-
-  module _ (front rest : List Item) where
-    abbrev old : List Item
-    old = front ++ rest
-
-    abbrev all : List Item
-    all = front ++ new ∷ rest
-
-    inode_same : (ino : ℕ) → inode_in all ino ≡ inode_in old ino
-    inode_same ino = ap value_of_item (find_same new (is_at ino inode_item) front rest (not_at ino inode_item refl))
-
-    at_same : (ino kind : ℕ) → nat_eq dir_log_index kind ≡ false → filter (is_at ino kind) all ≡ filter (is_at ino kind) old
-    at_same ino kind apart = filter_same new (is_at ino kind) front rest (not_at ino kind apart)
-
-    names_same : names_in all ≡ names_in old
-    names_same = flat_same new names_in_item front rest no_names
-
-    entries_same : entries_in all ≡ entries_in old
-    entries_same = flat_same new entries_in_item front rest no_entries
-
-    addresses_same : data_addresses all ≡ data_addresses old
-    addresses_same = flat_same new item_addresses front rest no_addresses
-
-    whole_same : (blocks : Data) (ino : ℕ) (value : Option InodeValue) → whole_said all blocks ino value ≡ whole_said old blocks ino value
-    whole_same blocks ino None = refl
-    whole_same blocks ino (Some value) = rw (at_same ino xattr_item refl, at_same ino extent_data refl) refl
-
-    existing_same : (ino : ℕ) (value : Option InodeValue) → existing_said all ino value ≡ existing_said old ino value
-    existing_same ino None = refl
-    existing_same ino (Some value) = rw (at_same ino extent_data refl) refl
-
-    not_extent : (ino : ℕ) (item : Item) → new ≡ item → IsTrue (is_at ino extent_data item) → ⊥
-    not_extent ino item same at = true≢false (sym at ∙ ap (is_at ino extent_data) (sym same) ∙ not_at ino extent_data refl)
-
-    pub range_put : (blocks : Data) (log : FlatLog) → AreItemsOfLog old blocks log → ItemsRise all → IsLogItem new.0 new.1 → AreItemsOfLog all blocks (log_with (ranges_in all) log)
-    range_put blocks log h rise is_item = record {
-      rise = rise;
-      only = λ key bytes c. elim (in_middle new front rest (key, bytes) c) [
-        | inl same ↦ subst (λ (item : Item). IsLogItem item.0 item.1) same is_item
-        | inr there ↦ h.only key bytes there
-      ];
-      has_inode = λ key bytes c asks. elim (in_middle new front rest (key, bytes) c) [
-        | inl same ↦
-            let kind : key.kind ≡ dir_log_index = ap (λ (item : Item). item.0.kind) (sym same) ∙ is_range in
-            absurd (true≢false (sym asks ∙ ap asks_inode kind))
-        | inr there ↦ let said = h.has_inode key bytes there asks in (said.0, inode_same key.objectid ∙ said.1)
-      ];
-      extents = λ ino value is. subst (λ (l : List Item). HasItsExtents value (map extent_in_item l)) (sym (at_same ino extent_data refl)) (h.extents ino value (sym (inode_same ino) ∙ is));
-      bare = λ ino value is bare. ap (λ (l : List Item). flat_map pairs_in_item l) (at_same ino xattr_item refl) ∙ h.bare ino value (sym (inode_same ino) ∙ is) bare;
-      apart = λ ino one two c d at_one at_two. elim (in_middle new front rest one c) [
-        | inl same ↦ absurd (not_extent ino one same at_one)
-        | inr there ↦ elim (in_middle new front rest two d) [
-          | inl same ↦ absurd (not_extent ino two same at_two)
-          | inr here ↦ h.apart ino one two there here at_one at_two
-        ]
-      ];
-      blocks_there = λ at c. h.blocks_there at (subst (λ (l : List ℕ). Contains l at) addresses_same c);
-      once = λ dir. subst (λ (l : List FlatName). AreDistinct (filter (stands_in dir) l)) (sym names_same) (h.once dir);
-      whole = λ ino. h.whole ino ∙ sym (whole_same blocks ino (inode_in old ino)) ∙ ap (whole_said all blocks ino) (sym (inode_same ino));
-      existing = λ ino. h.existing ino ∙ sym (existing_same ino (inode_in old ino)) ∙ ap (existing_said all ino) (sym (inode_same ino));
-      names = h.names ∙ ap name_set (sym names_same);
-      ranges = refl;
-      entries = h.entries ∙ sym entries_same;
-    }
+use Rattle.cow_tree.proofs.Items.{lower, upper}
+use Rattle.logged_volume.specs.FlatLog.{LogEntry, LogRange}
+use Rattle.tree_range.specs.Between.{data_under}
+use Rattle.log_image.specs.LogItems.{AreItemsOfLog, IsLogItem, read_or, ranges_in_item, ranges_in, entries_in_item, entries_in}
+use Rattle.dir_ranges.specs.Ranges.{PutsARange, range_bytes, range_key, with_range}
+use Rattle.dir_ranges.proofs.Middle.{both_sides, flat_same}
+use Rattle.dir_ranges.proofs.OneListing.{puts_a_listing}
 
 -- ---- the item of a range
 
@@ -129,8 +39,14 @@ is_log_item range fits = record {
 pub says_range : (range : LogRange) → range.last < 2 ^ 64 → ranges_in_item (item_of range) ≡ range ∷ []
 says_range range fits = ap (λ (last : ℕ). record { dir = range.dir; first = range.first; last = last } ∷ []) (ap (read_or 0) (range_reads_back range.last fits))
 
+-- it says no entry
+no_entry : (range : LogRange) (items : List Item) → ItemsRise items → data_under (range_key range) items ≡ None → entries_in (with_range range items) ≡ entries_in items
+no_entry range items rise absent =
+    flat_same (item_of range) entries_in_item (lower (range_key range) items) (upper (range_key range) items) refl
+    ∙ ap entries_in (both_sides (range_key range) items rise absent)
+
 pub puts_a_range : PutsARange
 puts_a_range items blocks log range fits absent h =
-    range_put (item_of range) refl (lower (range_key range) items) (upper (range_key range) items) blocks log
-    (subst (λ (l : List Item). AreItemsOfLog l blocks log) (sym (both_sides (range_key range) items h.rise absent)) h)
-    (with_rise (range_key range) (range_bytes range) items h.rise) (is_log_item range fits)
+    subst (λ (entries : List LogEntry). AreItemsOfLog (with_range range items) blocks (record log { ranges = ranges_in (with_range range items); entries = entries }))
+    (no_entry range items h.rise absent ∙ sym h.entries)
+    (puts_a_listing items blocks log (range_key range) (range_bytes range) refl (is_log_item range fits) absent h)

@@ -103,7 +103,7 @@ module _ (places : List Place) (was : List Item) where
   }
 
 -- keys that fit stay so
-keys_with : (key : Key) (bytes : List ℕ) (items : List Item) → KeyFits key → HaveKeys items → HaveKeys (with_item key bytes items)
+pub keys_with : (key : Key) (bytes : List ℕ) (items : List Item) → KeyFits key → HaveKeys items → HaveKeys (with_item key bytes items)
 keys_with key bytes items fits keys = λ other content c.
     elim (Contains-append_cases (filter (λ item. key_below item.0 key) items) ((key, bytes) ∷ filter (λ item. key_below key item.0) items) (other, content) c) [
       | inl low ↦ keys other content (in_filter (λ (item : Item). key_below item.0 key) items (other, content) low).0

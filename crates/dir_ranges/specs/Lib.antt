@@ -1,2 +1,5 @@
 pub mod Ranges
 pub mod Gone
+pub mod Listing
+pub mod Indexes
+pub mod Entries

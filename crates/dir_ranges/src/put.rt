@@ -8,8 +8,8 @@ ghost use Rattle.tree_frame.specs.Frame.{AreCurrent, IsEdit};
 ghost use Rattle.log_edit.specs.Room.{HasRoomFor, room_of_tree, spare_of_tree};
 ghost use Rattle.dir_ranges.specs.Ranges.{range_key, with_range};
 
+use blk_base::Key;
 use blk_base::format::{DIR_LOG_INDEX, RANGE_SIZE};
-use blk_base::{Key, put_u64};
 use block_table::{BlockTable, Tree};
 use log_edit::put_item;
 
@@ -18,7 +18,7 @@ fn range_bytes(last: u64) -> [u8; RANGE_SIZE]
     ensures { result ≡ number_bytes 8 last }
 {
     let mut bytes = [0; RANGE_SIZE];
-    put_u64(&mut bytes, 0, last);
+    item_dir::put_range(last, &mut bytes);
     bytes
 }
 
