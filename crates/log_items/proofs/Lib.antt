@@ -7,3 +7,5 @@ pub mod Copying
 pub mod Named
 pub mod Saying
 pub mod Renamed
+pub mod Writings
+pub mod HasItem

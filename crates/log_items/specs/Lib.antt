@@ -1,4 +1,6 @@
 pub mod Copied
 pub mod Forgotten
+pub mod Inode
 pub mod Keys
 pub mod Names
+pub mod Writing

@@ -8,8 +8,10 @@
 mod copy;
 mod entries;
 mod inode;
+mod item;
 pub mod laws;
 mod names;
+mod whole;
 
 pub use inode::forget;
 pub use names::write_names;

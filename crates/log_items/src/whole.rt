@@ -1,0 +1,108 @@
+ghost use Rattle.std.specs.Prelude.{◌≡◌, ◌⊎◌, ◌+◌, ℕ, Bool, List, cond, length, max, nat_eq, Some};
+ghost use Rattle.std.specs.FinMap.{get};
+ghost use Rattle.blk_base.specs.Items.{InodeValue, IsInode, dir_mode, file_mode, inode_bytes, link_mode};
+ghost use Rattle.blk_base.specs.Keys.{extent_data, xattr_item};
+ghost use Rattle.blk_base.specs.Trees.{AreApart};
+ghost use Rattle.block_table.specs.TreeIn.{IsSealedTree};
+ghost use Rattle.tree_range.specs.Shape.{AreAlike, IsTree, tree_items, tree_reach};
+ghost use Rattle.tree_frame.specs.Frame.{AreCurrent, IsEdit};
+ghost use Rattle.tree_check.specs.Items.{HaveKeys};
+ghost use Rattle.log_edit.specs.Room.{HasRoomFor, count_between, room_of_tree, spare_of_tree};
+ghost use Rattle.flat_model.specs.Coherent.{IsCoherent};
+ghost use Rattle.flat_model.specs.Records.{InodeRecord};
+ghost use Rattle.flat_model.specs.Volume.{Subvolume};
+ghost use Rattle.volume_image.specs.Subvolume.{AreItemsOf, Data};
+ghost use Rattle.logged_volume.specs.FlatLog.{FlatLog};
+ghost use Rattle.log_image.specs.LogItems.{AreItemsOfLog};
+ghost use Rattle.item_inode.specs.Inode.{inode_view};
+ghost use Rattle.item_edit.specs.ItemEdit.{HasInode};
+ghost use Rattle.log_items.specs.Inode.{HasItsKind, first_at, inode_count, items_at, last_at, own_count, value_to_log, with_attributes, with_inode, with_items_at, with_own_items, with_target};
+ghost use Rattle.log_items.specs.Names.{names_to_log, renamed};
+ghost use Rattle.log_items.specs.Writing.{IsWriting, MayWrite};
+
+use crate::copy::write_range;
+use crate::item::{has_whole, write_item};
+use crate::names::write_names;
+use blk_base::format::{EXTENT_DATA, LINK_MODE, XATTR_ITEM};
+use blk_base::{Ino, Key};
+use block_table::{BlockTable, SubState, Tree};
+use item_edit::inode_at;
+use item_inode::InodeItem;
+
+/// Makes the items of one type of an inode in a log those that its subvolume has, byte for byte.
+fn write_items_at(table: &mut BlockTable, log: &mut Tree, from: &Tree, ino: Ino, kind: u8)
+    requires may { MayWrite table.old log.old from.now }
+    requires room { HasRoomFor table.old log.old (length (items_at ino.0 kind (tree_items table.old from.now))) }
+    ensures items { tree_items table.new log.new
+        ≡ with_items_at ino.0 kind (tree_items table.old from.now) (tree_items table.old log.old) }
+    ensures writing { IsWriting table.old log.old from.now table.new log.new }
+{
+    let first = Key {
+        objectid: ino.0,
+        kind,
+        offset: 0,
+    };
+    let last = Key {
+        objectid: ino.0,
+        kind,
+        offset: u64::MAX,
+    };
+    write_range(table, log, from, &first, &last);
+}
+
+/// Makes the attributes of an inode that is whole in a log those that its subvolume has ("XATTR_ITEM" in
+/// btrfs_log_all_xattrs of fs/btrfs/tree-log.c).
+fn write_attributes(table: &mut BlockTable, log: &mut Tree, from: &Tree, ino: Ino, whole: bool)
+    requires may { MayWrite table.old log.old from.now }
+    requires room { HasRoomFor table.old log.old (cond whole (length (items_at ino.0 xattr_item (tree_items table.old from.now))) 0) }
+    ensures items { tree_items table.new log.new ≡ with_attributes ino.0 whole (tree_items table.old from.now) (tree_items table.old log.old) }
+    ensures writing { IsWriting table.old log.old from.now table.new log.new }
+{
+    if whole {
+        write_items_at(table, log, from, ino, XATTR_ITEM);
+    }
+}
+
+/// Makes the target of an inode of this mode in a log that which its subvolume has, where it is a symlink (inline
+/// "EXTENT_DATA" of the on-disk format).
+fn write_target(table: &mut BlockTable, log: &mut Tree, from: &Tree, ino: Ino, mode: u32)
+    requires may { MayWrite table.old log.old from.now }
+    requires room { HasRoomFor table.old log.old (cond (nat_eq mode link_mode) (length (items_at ino.0 extent_data (tree_items table.old from.now))) 0) }
+    ensures items { tree_items table.new log.new ≡ with_target ino.0 mode (tree_items table.old from.now) (tree_items table.old log.old) }
+    ensures writing { IsWriting table.old log.old from.now table.new log.new }
+{
+    if mode == LINK_MODE {
+        write_items_at(table, log, from, ino, EXTENT_DATA);
+    }
+}
+
+/// Writes the item of an inode, whole its attributes too, and of a symlink its target.
+fn write_own_items(
+    table: &mut BlockTable,
+    log: &mut Tree,
+    from: &Tree,
+    ino: Ino,
+    whole: bool,
+    item: &InodeItem,
+)
+    requires may { MayWrite table.old log.old from.now }
+    requires room { HasRoomFor table.old log.old (own_count ino.0 whole item.now.mode (tree_items table.old from.now)) }
+    ensures items { tree_items table.new log.new ≡ with_own_items ino.0 whole (inode_view item.now) (tree_items table.old from.now) (tree_items table.old log.old) }
+    ensures spelled { ((item.now.mode ≡ file_mode) ⊎ (item.now.mode ≡ dir_mode) ⊎ (item.now.mode ≡ link_mode))
+        → IsInode (inode_bytes (inode_view item.now)) (inode_view item.now) }
+    ensures writing { IsWriting table.old log.old from.now table.new log.new }
+{
+    write_item(table, log, ino, item);
+    write_attributes(table, log, from, ino, whole);
+    write_target(table, log, from, ino, item.mode);
+}
+
+/// What the item of an inode says in a log, whole or as existing ("fill_inode_item" of fs/btrfs/tree-log.c, own).
+fn item_to_log(item: &InodeItem, whole: bool) -> InodeItem
+    ensures { inode_view result ≡ value_to_log whole (inode_view item.now) }
+{
+    InodeItem {
+        generation: if whole { item.generation.max(1) } else { 0 },
+        ..*item
+    }
+}
