@@ -23,13 +23,13 @@ use Rattle.volume_image.proofs.Lists.{in_cons, in_nothing}
 
 pub find_some : {X : Type 0} (p : X → Bool) (xs : List X) (x : X) → Contains xs x → p x ≡ true → (y : X) × (find p xs ≡ Some y)
 find_some p [] x c is = absurd (in_nothing x c)
-find_some {X} p (y ∷ xs) x c is = go (p y) refl
+find_some {X} p (y ∷ xs) x c is = go (λ there. find_some p xs x there is) (p y) refl
   where
-    go : (b : Bool) → p y ≡ b → (z : X) × (cond (p y) (Some y) (find p xs) ≡ Some z)
-    go true e = (y, ap (λ (b : Bool). cond b (Some y) (find p xs)) e)
-    go false e = elim (in_cons y x xs c) [
+    go : (Contains xs x → (z : X) × (find p xs ≡ Some z)) → (b : Bool) → p y ≡ b → (z : X) × (cond (p y) (Some y) (find p xs) ≡ Some z)
+    go later true e = (y, ap (λ (b : Bool). cond b (Some y) (find p xs)) e)
+    go later false e = elim (in_cons y x xs c) [
       | inl here ↦ absurd (true≢false (sym is ∙ sym (ap p here) ∙ e))
-      | inr there ↦ let rest = find_some p xs x there is in (rest.0, ap (λ (b : Bool). cond b (Some y) (find p xs)) e ∙ rest.1)
+      | inr there ↦ let rest = later there in (rest.0, ap (λ (b : Bool). cond b (Some y) (find p xs)) e ∙ rest.1)
     ]
 
 -- what the inode's item says in a log

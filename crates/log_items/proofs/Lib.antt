@@ -9,3 +9,4 @@ pub mod Saying
 pub mod Renamed
 pub mod Writings
 pub mod HasItem
+pub mod Parts

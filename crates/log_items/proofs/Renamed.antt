@@ -140,7 +140,7 @@ says_none f [] none = refl
 says_none {X} {Y} f (x ∷ xs) none = ap (λ (l : List Y). l ++ flat_map f xs) (none x (head_in x xs)) ∙ says_none f xs (λ y c. none y (tail_in x y xs c))
 
 module _ {X : Type 0} (front middle back : List X) where
-  filter_past : (p : X → Bool) → ((x : X) → Contains middle x → p x ≡ false) → filter p (front ++ (middle ++ back)) ≡ filter p front ++ filter p back
+  pub filter_past : (p : X → Bool) → ((x : X) → Contains middle x → p x ≡ false) → filter p (front ++ (middle ++ back)) ≡ filter p front ++ filter p back
   filter_past p none =
       filter-append p front (middle ++ back)
       ∙ ap (λ (l : List X). filter p front ++ l) (filter-append p middle back ∙ ap (λ (l : List X). l ++ filter p back) (filter_empties p middle none))

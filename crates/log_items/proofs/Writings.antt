@@ -1,15 +1,28 @@
 -- Edits of a log's tree one after the other, beside a subvolume's tree that stays.
-use Rattle.std.proofs.Common.{◌≡◌, ◌+◌, ◌++◌, ◌∙◌, ℕ, List, [], ◌∷◌, Bool, not, cond, Contains, length, refl, sym, ap, subst, inl, inr, arith}
+use Rattle.std.proofs.Common.{◌≡◌, ◌+◌, ◌++◌, ◌∙◌, ℕ, List, [], ◌∷◌, Bool, not, cond, Contains, length, true, false, nat_eq, ◌-◌, ◌≤◌, refl, sym, ap, subst, inl, inr, arith}
 use Rattle.std.proofs.lemmas.List.Elements.{Contains-append_cases}
 use Rattle.blk_base.specs.declared.key.Key.{Key}
 use Rattle.blk_base.specs.Keys.{key_below}
 use Rattle.blk_base.specs.Leaf.{Item}
 use Rattle.block_table.specs.declared.tree.Tree.{Tree}
 use Rattle.block_table.specs.Table.{Table}
+use Rattle.log_edit.specs.Room.{HasRoomFor, room_of_tree, spare_of_tree}
+use Rattle.log_edit.proofs.Rooms.{for_fewer, room_moves}
+use Rattle.blk_base.specs.Items.{link_mode}
+use Rattle.blk_base.specs.Keys.{extent_data, xattr_item}
+use Rattle.blk_base.specs.Trees.{ItemsRise}
+use Rattle.leaf_view.specs.KeyOrder.{KeyBelow_parts}
+use Rattle.leaf_view.proofs.Rising.{key_below_means}
+use Rattle.std.proofs.lemmas.Bool.{false_from_ne_true}
+use Rattle.tree_frame.specs.Frame.{with_item}
+use Rattle.log_items.specs.Inode.{first_at, items_at, last_at, with_attributes, with_items_at, with_target}
+use Rattle.log_items.proofs.Copying.{below_itself, between, with_range_count}
 use Rattle.tree_check.specs.Items.{HaveKeys}
 use Rattle.tree_frame.proofs.EditLaws.{edits_join, nothing_is_an_edit}
 use Rattle.tree_range.specs.Between.{items_between, items_from}
-use Rattle.tree_range.specs.Shape.{tree_items, tree_reach}
+use Rattle.block_table.specs.TreeIn.{IsSealedTree}
+use Rattle.tree_frame.specs.Frame.{AreCurrent, IsEdit}
+use Rattle.tree_range.specs.Shape.{IsTree, tree_items, tree_reach}
 use Rattle.tree_range.proofs.Local.{tree_alike}
 use Rattle.volume_image.proofs.Members.{in_filter}
 use Rattle.log_items.specs.Copied.{with_range}
@@ -45,6 +58,21 @@ both old mid new before from between_tree after may one two =
       buffers = two.buffers ∙ one.buffers;
     }
 
+-- an edit of the log's tree alone
+pub beside : (old new : Table) (before from after : Tree) → MayWrite old before from → IsTree new after → AreCurrent new (tree_reach new after) → HaveKeys (tree_items new after) → after.owner ≡ before.owner → IsEdit old new (tree_reach old before) (tree_reach new after)
+    → ((fsid : List ℕ) (was : ℕ) → IsSealedTree old before fsid was → (now : ℕ) × IsSealedTree new after fsid now) → room_of_tree new after ≡ room_of_tree old before → spare_of_tree new after ≡ spare_of_tree old before → IsWriting old before from new after
+beside old new before from after may tree current keys owner edit sealed blocks buffers = record {
+  tree = tree;
+  current = current;
+  keys = keys;
+  owner = owner;
+  edit = edit;
+  alike = kept_alike old before from new after may.stands may.apart edit;
+  sealed = sealed;
+  blocks = blocks;
+  buffers = buffers;
+}
+
 pub nothing : (old : Table) (before from : Tree) → MayWrite old before from → IsWriting old before from old before
 nothing old before from may = record {
   tree = may.tree;
@@ -75,3 +103,36 @@ keys_with_range first last part items new keys = λ key bytes c.
         | inr back ↦ keys key bytes (in_filter high items (key, bytes) back).0
       ]
     ]
+
+-- ---- room
+
+pub room_after : (old new : Table) (before after : Tree) (was is : ℕ) → room_of_tree new after ≡ room_of_tree old before → spare_of_tree new after ≡ spare_of_tree old before → length (tree_items new after) + is ≤ length (tree_items old before) + was
+    → HasRoomFor old before was → HasRoomFor new after is
+room_after old new before after was is blocks buffers less room =
+    let left : ℕ = length (tree_items old before) + was - length (tree_items new after) in
+    for_fewer new after is left (omega (arith, less)) (room_moves old new before after was left blocks buffers (omega (arith, less)) room)
+
+pub at_in_order : (ino kind : ℕ) → key_below (last_at ino kind) (first_at ino kind) ≡ false
+at_in_order ino kind = false_from_ne_true (key_below (last_at ino kind) (first_at ino kind))
+    (λ h. let parts = KeyBelow_parts (last_at ino kind) (first_at ino kind) (key_below_means (last_at ino kind) (first_at ino kind) h) in grind (arith, parts))
+
+pub item_count : (key : Key) (bytes : List ℕ) (items : List Item) → ItemsRise items → length (with_item key bytes items) ≤ length items + 1
+item_count key bytes items rise =
+    let count = with_range_count key key ((key, bytes) ∷ []) items (below_itself key) rise in
+    omega (arith, count)
+
+items_count : (ino kind : ℕ) (current items : List Item) → ItemsRise items → length (with_items_at ino kind current items) ≤ length items + length (items_at ino kind current)
+items_count ino kind current items rise =
+    let count = with_range_count (first_at ino kind) (last_at ino kind) (items_at ino kind current) items (at_in_order ino kind) rise in
+    omega (arith, count)
+
+pub attributes_count : (ino : ℕ) (whole : Bool) (current items : List Item) → ItemsRise items → length (with_attributes ino whole current items) ≤ length items + cond whole (length (items_at ino xattr_item current)) 0
+attributes_count ino true current items rise = items_count ino xattr_item current items rise
+attributes_count ino false current items rise = omega arith
+
+pub target_count : (ino mode : ℕ) (current items : List Item) → ItemsRise items → length (with_target ino mode current items) ≤ length items + cond (nat_eq mode link_mode) (length (items_at ino extent_data current)) 0
+target_count ino mode current items rise = go (nat_eq mode link_mode)
+  where
+    go : (b : Bool) → length (cond b (with_items_at ino extent_data current items) items) ≤ length items + cond b (length (items_at ino extent_data current)) 0
+    go true = items_count ino extent_data current items rise
+    go false = omega arith

@@ -1,9 +1,10 @@
 ghost use Rattle.std.specs.Prelude.{◌≡◌, ◌⊎◌, ◌≤◌, ◌<◌, ◌^◌, ◌+◌, ℕ, List, length, nat_eq, not};
 ghost use Rattle.blk_base.specs.Items.{InodeValue, IsInode, dir_mode, file_mode, inode_bytes, link_mode};
-ghost use Rattle.blk_base.specs.Keys.{inode_item};
+ghost use Rattle.blk_base.specs.Keys.{KeyFits, inode_item};
 ghost use Rattle.block_table.specs.TreeIn.{IsSealedTree};
 ghost use Rattle.tree_range.specs.Shape.{IsTree, tree_items, tree_reach};
 ghost use Rattle.tree_frame.specs.Frame.{AreCurrent, IsEdit, with_item};
+ghost use Rattle.tree_check.specs.Items.{HaveKeys};
 ghost use Rattle.log_edit.specs.Room.{HasRoomFor, room_of_tree, spare_of_tree};
 ghost use Rattle.volume_image.specs.Subvolume.{Data, make_key};
 ghost use Rattle.logged_volume.specs.FlatLog.{FlatLog, is_whole};
@@ -19,7 +20,8 @@ use tree_range::get;
 
 /// The key of an inode's item ("INODE_ITEM" of the on-disk format).
 fn inode_key(ino: Ino) -> Key
-    ensures { result ≡ make_key ino.0 inode_item 0 }
+    ensures key { result ≡ make_key ino.0 inode_item 0 }
+    ensures fits { KeyFits result }
 {
     Key {
         objectid: ino.0,
@@ -92,6 +94,7 @@ pub(crate) fn write_item(table: &mut BlockTable, log: &mut Tree, ino: Ino, item:
     ensures items { tree_items table.new log.new ≡ with_item (make_key ino.0 inode_item 0) (inode_bytes (inode_view item.now)) (tree_items table.old log.old) }
     ensures spelled { ((item.now.mode ≡ file_mode) ⊎ (item.now.mode ≡ dir_mode) ⊎ (item.now.mode ≡ link_mode))
         → IsInode (inode_bytes (inode_view item.now)) (inode_view item.now) }
+    ensures keys { HaveKeys (tree_items table.old log.old) → HaveKeys (tree_items table.new log.new) }
     ensures owner { log.new.owner ≡ log.old.owner }
     ensures edit { IsEdit table.old table.new (tree_reach table.old log.old) (tree_reach table.new log.new) }
     ensures current { AreCurrent table.new (tree_reach table.new log.new) }

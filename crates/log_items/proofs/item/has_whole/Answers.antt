@@ -11,7 +11,7 @@ pub returns-in-Some : goal.returns-in-Some
 returns-in-Some c = λ blocks flat h.
     let items = tree_items c.args.table.now c.args.log.now in
     let under : data_under (make_key c.args.ino.0 inode_item 0) items ≡ Some c.in-Some.bytes.now =
-    sym (ap (λ (k : Key). data_under k items) c.inode_key.ensures) ∙ sym c.get.ensures ∙ ap data_view c.in-Some.is in
+    sym (ap (λ (k : Key). data_under k items) c.inode_key.ensures.key) ∙ sym c.get.ensures ∙ ap data_view c.in-Some.is in
     let said = item_said items blocks flat c.args.ino.0 h c.in-Some.bytes.now under in
     c.has_generation.ensures said.0 said.1 ∙ sym (whole_some items blocks flat c.args.ino.0 h said.0 said.2)
 
@@ -19,5 +19,5 @@ pub returns-in-None : goal.returns-in-None
 returns-in-None c = λ blocks flat h.
     let items = tree_items c.args.table.now c.args.log.now in
     let under : data_under (make_key c.args.ino.0 inode_item 0) items ≡ None =
-    sym (ap (λ (k : Key). data_under k items) c.inode_key.ensures) ∙ sym c.get.ensures ∙ ap data_view c.in-None.is in
+    sym (ap (λ (k : Key). data_under k items) c.inode_key.ensures.key) ∙ sym c.get.ensures ∙ ap data_view c.in-None.is in
     sym (whole_none items blocks flat c.args.ino.0 h (no_item items blocks flat c.args.ino.0 h under))
