@@ -10,3 +10,4 @@ pub mod Renamed
 pub mod Writings
 pub mod HasItem
 pub mod Parts
+pub mod Own
