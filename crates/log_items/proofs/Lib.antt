@@ -11,3 +11,4 @@ pub mod Writings
 pub mod HasItem
 pub mod Parts
 pub mod Own
+pub mod Theirs
