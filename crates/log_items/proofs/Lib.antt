@@ -12,3 +12,4 @@ pub mod HasItem
 pub mod Parts
 pub mod Own
 pub mod Theirs
+pub mod OwnLaw
