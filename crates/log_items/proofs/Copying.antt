@@ -48,14 +48,14 @@ below_not : (a b : Key) → KeyBelow a b → key_below b a ≡ false
 below_not a b low = false_from_ne_true (key_below b a) (λ e. KeyBelow_irrefl a (KeyBelow_trans a b a low (key_below_means b a e)))
 
 -- a key below one that isn't above another one is below the other one
-below_low : (a b c : Key) → KeyBelow a b → key_below c b ≡ false → KeyBelow a c
+pub below_low : (a b c : Key) → KeyBelow a b → key_below c b ≡ false → KeyBelow a c
 below_low a b c low high = elim (not_below_means c b high) [
   | inl same ↦ subst (KeyBelow a) (sym same) low
   | inr less ↦ KeyBelow_trans a b c low less
 ]
 
 -- a key that isn't above one is below each key above that one
-low_below : (a b c : Key) → key_below b a ≡ false → KeyBelow b c → KeyBelow a c
+pub low_below : (a b c : Key) → key_below b a ≡ false → KeyBelow b c → KeyBelow a c
 low_below a b c low high = elim (not_below_means b a low) [
   | inl same ↦ subst (λ (k : Key). KeyBelow k c) same high
   | inr less ↦ KeyBelow_trans a b c less high

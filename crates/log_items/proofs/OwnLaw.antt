@@ -25,6 +25,18 @@ use Rattle.flat_model.proofs.Lists.{filter_empties}
 use Rattle.log_items.specs.Inode.{HasItsKind, file_with_had, value_to_log, whole_with_had, with_attributes, with_existing, with_items_at, with_own_items, with_target, with_whole}
 use Rattle.log_items.proofs.HasItem.{find_some, own_item, whole_none, whole_some}
 use Rattle.log_items.proofs.Own.{AreOwn, HasOwn, SaysOwn, attributes_now, extents_now, log_with_own, three_have}
+use Rattle.cow_tree.proofs.Items.{lower, lower_below, rise_append, rise_filter, upper, upper_above, with_rise}
+use Rattle.std.proofs.lemmas.List.Elements.{All-contains, Contains-append_cases}
+use Rattle.log_image.proofs.Limits.{all_of}
+use Rattle.blk_base.specs.Keys.{KeyBelow, key_below}
+use Rattle.log_items.specs.Copied.{with_range}
+use Rattle.log_items.specs.Inode.{first_at, items_at, last_at}
+use Rattle.log_items.proofs.Copying.{below_low, low_below, not_true}
+use Rattle.log_items.proofs.Walk.{keys_with}
+use Rattle.log_items.proofs.Writings.{at_in_order, keys_between, keys_with_range}
+use Rattle.tree_range.specs.Between.{items_between, items_from}
+use Rattle.leaf_view.specs.KeyOrder.{KeyBelow_trans}
+use Rattle.leaf_view.proofs.Rising.{key_below_means}
 use Rattle.log_items.proofs.Parts.{IsPart, keeps_others, part_stays, part_with_item, part_with_items}
 use Rattle.log_items.proofs.Theirs.{attribute_logged, extent_logged, link_item, their_attributes}
 
@@ -148,3 +160,187 @@ module _ (ino : ℕ) (items : List Item) (blocks : Data) (log : FlatLog) (inode 
               by_generation : (b : Bool) → cond b None (Some (whole_by_mode items blocks ino said)) ≡ Some (WholeFile had) → whole_by_mode items blocks ino said ≡ WholeFile had
               by_generation true q = absurd cc
               by_generation false q = cc
+
+-- ---- rising items
+
+rise_join : (xs ys : List Item) → ((x y : Item) → Contains xs x → Contains ys y → KeyBelow x.0 y.0) → ItemsRise xs → ItemsRise ys → ItemsRise (xs ++ ys)
+rise_join xs [] below one two = subst ItemsRise (sym (append_nothing xs)) one
+  where
+    append_nothing : (l : List Item) → l ++ [] ≡ l
+    append_nothing [] = refl
+    append_nothing (x ∷ xs) = ap (λ (l : List Item). x ∷ l) (append_nothing xs)
+rise_join xs (y ∷ ys) below one two = rise_append xs y ys (all_of (λ (x : Item). KeyBelow x.0 y.0) xs (λ x c. below x y c (Rattle.volume_image.proofs.Reaches.head_in y ys))) one two
+
+module _ (first last : Key) (current items : List Item) (order : key_below last first ≡ false) (theirs : ItemsRise current) (rise : ItemsRise items) where
+  abbrev part : List Item
+  part = items_between first last current
+
+  in_part : (y : Item) → Contains part y → (key_below y.0 first ≡ false) × (key_below last y.0 ≡ false)
+  in_part y c =
+      let to = in_filter (λ (x : Item). not (key_below last x.0)) (items_from first current) y c in
+      let from = in_filter (λ (x : Item). not (key_below x.0 first)) current y to.0 in
+      (not_true (key_below y.0 first) from.1, not_true (key_below last y.0) to.1)
+
+  in_lower : (x : Item) → Contains (lower first items) x → KeyBelow x.0 first
+  in_lower x c = key_below_means x.0 first (in_filter (λ (x : Item). key_below x.0 first) items x c).1
+
+  in_upper : (z : Item) → Contains (upper last items) z → KeyBelow last z.0
+  in_upper z c = key_below_means last z.0 (in_filter (λ (x : Item). key_below last x.0) items z c).1
+
+  pub range_rises : ItemsRise (with_range first last part items)
+  range_rises = rise_join (lower first items) (part ++ upper last items)
+      (λ x y c d. elim (Contains-append_cases part (upper last items) y d) [
+        | inl here ↦ below_low x.0 first y.0 (in_lower x c) (in_part y here).0
+        | inr high ↦ KeyBelow_trans x.0 last y.0 (below_low x.0 first last (in_lower x c) order) (in_upper y high)
+      ])
+      (rise_filter (λ (x : Item). key_below x.0 first) items rise)
+      (rise_join part (upper last items) (λ y z c d. low_below y.0 last z.0 (in_part y c).1 (in_upper z d))
+      (rise_filter (λ (x : Item). not (key_below last x.0)) (items_from first current) (rise_filter (λ (x : Item). not (key_below x.0 first)) current theirs))
+      (rise_filter (λ (x : Item). key_below last x.0) items rise))
+
+-- ---- the law
+
+link_of : (inode : InodeRecord) → mode_of inode ≡ link_mode → (link : LinkRecord) × (inode ≡ LinkInode link)
+link_of (FileInode file) m = absurd (omega (arith, m))
+link_of (DirInode dir) m = absurd (omega (arith, m))
+link_of (LinkInode link) m = (link, refl)
+
+not_zero : (g : ℕ) → max g 1 ≡ 0 → ⊥
+not_zero g z = omega (arith, z)
+
+module _ (ino : ℕ) (items current : List Item) (blocks theirs : Data) (log : FlatLog) (sub : Subvolume) (inode : InodeRecord) (v : InodeValue) (whole : Bool) (h : AreItemsOfLog items blocks log) (kind : HasItsKind log ino inode) (keys : HaveKeys items) (their_keys : HaveKeys current) (rise : ItemsRise current)
+    (are : AreItemsOf current theirs sub) (there : get sub.inodes ino ≡ Some inode) (mode : v.mode ≡ mode_of inode) (size : (file : FileRecord) → inode ≡ FileInode file → v.size ≡ file.size) (spelled : IsInode (inode_bytes (value_to_log whole v)) (value_to_log whole v)) (may : whole ≡ false → get log.whole ino ≡ None) where
+  abbrev value : InodeValue
+  value = value_to_log whole v
+
+  abbrev one : List Item
+  one = with_item (make_key ino inode_item 0) (inode_bytes value) items
+
+  abbrev two : List Item
+  two = with_attributes ino whole current one
+
+  abbrev new : List Item
+  new = with_own_items ino whole value current items
+
+  abbrev attributes : List Item
+  attributes = cond whole (filter (is_at ino xattr_item) current) (filter (is_at ino xattr_item) items)
+
+  abbrev extents : List Item
+  extents = cond (nat_eq v.mode link_mode) (filter (is_at ino extent_data) current) (filter (is_at ino extent_data) items)
+
+  one_rises : ItemsRise one
+  one_rises = with_rise (make_key ino inode_item 0) (inode_bytes value) items h.rise
+
+  one_keys : HaveKeys one
+  one_keys = let item = are.inodes ino inode there in keys_with (make_key ino inode_item 0) (inode_bytes value) items (their_keys (make_key ino inode_item 0) item.0 item.1) keys
+
+  two_rises : ItemsRise two
+  two_rises = go whole
+    where
+      go : (b : Bool) → ItemsRise (with_attributes ino b current one)
+      go true = range_rises (first_at ino xattr_item) (last_at ino xattr_item) current one (at_in_order ino xattr_item) rise one_rises
+      go false = one_rises
+
+  two_keys : HaveKeys two
+  two_keys = go whole
+    where
+      go : (b : Bool) → HaveKeys (with_attributes ino b current one)
+      go true = keys_with_range (first_at ino xattr_item) (last_at ino xattr_item) (items_at ino xattr_item current) one (keys_between (first_at ino xattr_item) (last_at ino xattr_item) current their_keys) one_keys
+      go false = one_keys
+
+  first : IsPart ino inode_item items one ((make_key ino inode_item 0, inode_bytes value) ∷ [])
+  first = part_with_item ino inode_item (inode_bytes value) items h.rise (λ item c is. (h.only item.0 item.1 c).its_key.inode (at_gives ino inode_item item is).1)
+
+  second : (b : Bool) → IsPart ino xattr_item one (with_attributes ino b current one) (cond b (filter (is_at ino xattr_item) current) (filter (is_at ino xattr_item) items))
+  second true = part_with_items ino xattr_item current one their_keys one_keys one_rises
+  second false =
+      subst (IsPart ino xattr_item one one)
+      (keeps_others ino inode_item items one ((make_key ino inode_item 0, inode_bytes value) ∷ []) first (is_at ino xattr_item) (kinds_apart ino inode_item xattr_item (λ e. omega (arith, e))))
+      (part_stays ino xattr_item one)
+
+  third : (b : Bool) → IsPart ino extent_data two (cond b (with_items_at ino extent_data current two) two) (cond b (filter (is_at ino extent_data) current) (filter (is_at ino extent_data) items))
+  third true = part_with_items ino extent_data current two their_keys two_keys two_rises
+  third false =
+      subst (IsPart ino extent_data two two)
+      (keeps_others ino xattr_item one two attributes (second whole) (is_at ino extent_data) (kinds_apart ino xattr_item extent_data (λ e. omega (arith, e)))
+      ∙ keeps_others ino inode_item items one ((make_key ino inode_item 0, inode_bytes value) ∷ []) first (is_at ino extent_data) (kinds_apart ino inode_item extent_data (λ e. omega (arith, e))))
+      (part_stays ino extent_data two)
+
+  has : HasOwn ino items new (inode_bytes value) attributes extents
+  has = three_have ino items one two new (inode_bytes value) attributes extents first (second whole) (third (nat_eq v.mode link_mode))
+
+  zero_bare : value.generation ≡ 0 → get log.whole ino ≡ None
+  zero_bare = go whole refl
+    where
+      go : (b : Bool) → whole ≡ b → cond b (max v.generation 1) 0 ≡ 0 → get log.whole ino ≡ None
+      go true e z = absurd (not_zero v.generation z)
+      go false e z = may e
+
+  all_attributes : (b : Bool) (key : Key) (bytes : List ℕ) → Contains (cond b (filter (is_at ino xattr_item) current) (filter (is_at ino xattr_item) items)) (key, bytes) → IsLogItem key bytes
+  all_attributes true key bytes c = attribute_logged ino current theirs sub rise are inode there key bytes c
+  all_attributes false key bytes c = h.only key bytes (in_filter (is_at ino xattr_item) items (key, bytes) c).0
+
+  all_extents : (b : Bool) (key : Key) (bytes : List ℕ) → Contains (cond b (filter (is_at ino extent_data) current) (filter (is_at ino extent_data) items)) (key, bytes) → IsLogItem key bytes
+  all_extents true key bytes c = extent_logged ino current theirs sub rise are inode there key bytes c
+  all_extents false key bytes c = h.only key bytes (in_filter (is_at ino extent_data) items (key, bytes) c).0
+
+  -- a symlink's one extent
+  link_extents : (link : LinkRecord) → inode ≡ LinkInode link → map extent_in_item (filter (is_at ino extent_data) current) ≡ (0, Inline link.target) ∷ []
+  link_extents link is =
+      let item = link_item ino current theirs sub rise are inode there link is in
+      ap (map extent_in_item) item.1 ∙ ap (λ (e : ℕ × ExtentValue). e ∷ []) item.2
+
+  the_extents : (b : Bool) → nat_eq v.mode link_mode ≡ b → HasItsExtents value (map extent_in_item (cond b (filter (is_at ino extent_data) current) (filter (is_at ino extent_data) items)))
+  the_extents false e =
+      let other : v.mode ≢ link_mode = λ m. true≢false (sym (eq-eqb v.mode link_mode m) ∙ e) in
+      file_or_dir ino items blocks log inode h kind value mode other zero_bare
+  the_extents true e =
+      let m : v.mode ≡ link_mode = eqb-true v.mode link_mode e in
+      let link = link_of inode (sym mode ∙ m) in
+      subst (HasItsExtents value) (sym (link_extents link.0 link.1)) (record {
+        link = λ l. ((0, Inline link.0.target), refl, refl);
+        file = λ f. absurd (omega (arith, m, f));
+        dir = λ d. absurd (omega (arith, m, d));
+        bare = λ z other. absurd (other m);
+      })
+
+  the_bare : value.generation ≡ 0 → flat_map pairs_in_item attributes ≡ []
+  the_bare z = go whole refl z
+    where
+      go : (b : Bool) → whole ≡ b → cond b (max v.generation 1) 0 ≡ 0 → flat_map pairs_in_item (cond b (filter (is_at ino xattr_item) current) (filter (is_at ino xattr_item) items)) ≡ []
+      go true e z = absurd (not_zero v.generation z)
+      go false e z = bare_attributes ino items blocks log inode h kind (may e)
+
+  the_apart : (b : Bool) → nat_eq v.mode link_mode ≡ b → (x y : Item) → Contains (cond b (filter (is_at ino extent_data) current) (filter (is_at ino extent_data) items)) x → Contains (cond b (filter (is_at ino extent_data) current) (filter (is_at ino extent_data) items)) y
+      → x.0.offset < y.0.offset → x.0.offset + covered_bytes (extent_in_item x) ≤ y.0.offset
+  the_apart false e x y c d below =
+      let one = in_filter (is_at ino extent_data) items x c in
+      let other = in_filter (is_at ino extent_data) items y d in
+      h.apart ino x y one.0 other.0 one.1 other.1 below
+  the_apart true e x y c d below =
+      let link = link_of inode (sym mode ∙ eqb-true v.mode link_mode e) in
+      let item = link_item ino current theirs sub rise are inode there link.0 link.1 in
+      let at_zero : (z : Item) → Contains (filter (is_at ino extent_data) current) z → z.0.offset ≡ 0 = λ z f.
+      elim (in_cons (make_key ino extent_data 0, item.0) z [] (subst (λ (l : List Item). Contains l z) item.1 f)) [ inl same ↦ ap (λ (w : Item). w.0.offset) (sym same) | inr none ↦ absurd (in_nothing z none) ] in
+      absurd (omega (arith, at_zero x c, at_zero y d, below))
+
+  the_blocks : (b : Bool) → nat_eq v.mode link_mode ≡ b → (item : Item) (at : ℕ) → Contains (cond b (filter (is_at ino extent_data) current) (filter (is_at ino extent_data) items)) item → Contains (item_addresses item) at → (block : List ℕ) × (blocks at ≡ Some block)
+  the_blocks false e item at c d = h.blocks_there at (flat_map_in item_addresses items item at (in_filter (is_at ino extent_data) items item c).0 d)
+  the_blocks true e item at c d =
+      let link = link_of inode (sym mode ∙ eqb-true v.mode link_mode e) in
+      let own = link_item ino current theirs sub rise are inode there link.0 link.1 in
+      elim (in_cons (make_key ino extent_data 0, own.0) item [] (subst (λ (l : List Item). Contains l item) own.1 c)) [
+        | inl same ↦ absurd (in_nothing at (subst (λ (l : List ℕ). Contains l at) own.3 (subst (λ (w : Item). Contains (item_addresses w) at) (sym same) d)))
+        | inr none ↦ absurd (in_nothing item none)
+      ]
+
+  own : AreOwn blocks (inode_bytes value) value attributes extents
+  own = record {
+    spelled = spelled;
+    attributes_logged = all_attributes whole;
+    extents_logged = all_extents (nat_eq v.mode link_mode);
+    its_extents = the_extents (nat_eq v.mode link_mode) refl;
+    bare = the_bare;
+    apart = the_apart (nat_eq v.mode link_mode) refl;
+    blocks_there = the_blocks (nat_eq v.mode link_mode) refl;
+  }

@@ -7,7 +7,7 @@ use Rattle.blk_base.specs.declared.fault.ItemFault.{ItemFault}
 use Rattle.blk_base.specs.declared.key.Key.{Key}
 use Rattle.blk_base.specs.Crc.{name_hash_of}
 use Rattle.blk_base.specs.Entries.{EntryValue, entries_of}
-use Rattle.blk_base.specs.Extents.{Inline, IsExtent, log_extent_of}
+use Rattle.blk_base.specs.Extents.{ExtentValue, Inline, IsExtent, extent_of, log_extent_of}
 use Rattle.blk_base.specs.ItemFaults.{IsLogSpelled, IsSpelled, is_log_kind}
 use Rattle.blk_base.specs.Keys.{KeyBelow, extent_data, xattr_item}
 use Rattle.blk_base.specs.Leaf.{Item}
@@ -20,13 +20,13 @@ use Rattle.image_faults.specs.Said.{read_list}
 use Rattle.image_faults.proofs.Asking.{asked_attribute, with_attribute}
 use Rattle.image_faults.proofs.Held.{asked_from, asked_to}
 use Rattle.image_faults.proofs.OfInodes.{bytes_one}
-use Rattle.item_laws.specs.ExtentLaws.{log_extent_to, log_from_extent}
+use Rattle.item_laws.specs.ExtentLaws.{extent_to, log_extent_to, log_from_extent}
 use Rattle.leaf_view.specs.KeyOrder.{KeyBelow_irrefl}
 use Rattle.log_image.specs.LogItems.{IsLogItem, extent_in_item, is_at, pairs_in_item, read_or}
 use Rattle.log_image.proofs.OneLog.{at_from, at_gives}
 use Rattle.log_image.proofs.Sayings.{in_flat_map}
 use Rattle.tree_range.proofs.Rise.{rise_head}
-use Rattle.volume_image.specs.Subvolume.{AreItemsOf, Data, IsAsked, IsExtentOf, attribute_entry, attributes_asked, attributes_there, make_key, without_transid}
+use Rattle.volume_image.specs.Subvolume.{AreItemsOf, Data, IsAsked, IsExtentOf, attribute_entry, attributes_asked, attributes_there, item_addresses, make_key, without_transid}
 use Rattle.volume_image.proofs.Asked.{asked_attributes, asked_extent}
 use Rattle.volume_image.proofs.Lists.{in_cons, in_nothing}
 use Rattle.volume_image.proofs.Members.{filter_in, flat_map_in, get_in, in_filter, in_get, in_map, map_in, not_empty}
@@ -125,7 +125,7 @@ module _ (ino : ℕ) (current : List Item) (theirs : Data) (sub : Subvolume) (ri
         some_same : (x y : InodeRecord) → Some x ≡ Some y → x ≡ y
         some_same x y e = cc
 
-    pub link_item : (bytes : List ℕ) × (filter (is_at ino extent_data) current ≡ (make_key ino extent_data 0, bytes) ∷ []) × (extent_in_item (make_key ino extent_data 0, bytes) ≡ (0, Inline link.target))
+    pub link_item : (bytes : List ℕ) × (filter (is_at ino extent_data) current ≡ (make_key ino extent_data 0, bytes) ∷ []) × (extent_in_item (make_key ino extent_data 0, bytes) ≡ (0, Inline link.target)) × (item_addresses (make_key ino extent_data 0, bytes) ≡ [])
     link_item =
         let item = are.targets ino link (there ∙ ap Some is) in
         let key = make_key ino extent_data 0 in
@@ -133,9 +133,13 @@ module _ (ino : ℕ) (current : List Item) (theirs : Data) (sub : Subvolume) (ri
         let read = log_extent_to key item.0 (Inline link.target) (log_from_extent key item.0 (Inline link.target) (inline_at 0 item.0 item.1)) in (
           item.0,
           one_of_rising (filter (is_at ino extent_data) current) (key, item.0) (rise_filter (is_at ino extent_data) current rise) own one_key,
-          ap (λ (r : Result Rattle.blk_base.specs.Extents.ExtentValue ItemFault). (0, read_or (Inline []) r)) read,
+          ap (λ (r : Result ExtentValue ItemFault). (0, read_or (Inline []) r)) read,
+          no_blocks item.0 (extent_to key item.0 (Inline link.target) (inline_at 0 item.0 item.1)),
         )
       where
+        no_blocks : (bytes : List ℕ) → extent_of (make_key ino extent_data 0) bytes ≡ Ok (Inline link.target) → item_addresses (make_key ino extent_data 0, bytes) ≡ []
+        no_blocks bytes read = rw read refl
+
         one_key : (y : Item) → Contains (filter (is_at ino extent_data) current) y → y.0 ≡ make_key ino extent_data 0
         one_key y c =
             let at = at_key extent_data y c in
