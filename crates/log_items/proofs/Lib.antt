@@ -13,3 +13,4 @@ pub mod Parts
 pub mod Own
 pub mod Theirs
 pub mod OwnLaw
+pub mod Rises

@@ -9,20 +9,25 @@ use Rattle.blk_base.specs.Keys.{extent_data, inode_item, xattr_item}
 use Rattle.blk_base.specs.Leaf.{Item}
 use Rattle.blk_base.specs.Trees.{ItemsRise}
 use Rattle.blk_base.specs.Extents.{ExtentValue, Inline}
-use Rattle.flat_model.specs.Records.{FileRecord, InodeRecord, LinkRecord, DirInode, FileInode, LinkInode, at_creation, attributes_of, kind_of, new_link}
+use Rattle.flat_model.specs.Records.{FileRecord, InodeRecord, LinkRecord, DirInode, FileInode, LinkInode, at_creation, attributes_of, kind_of, new_dir, new_file, new_link}
 use Rattle.flat_model.specs.Volume.{Subvolume}
 use Rattle.flat_model.proofs.Maps.{get_insert_other, get_insert_same, get_remove_other, get_remove_same}
-use Rattle.log_image.specs.LogItems.{AreItemsOfLog, HasItsExtents, IsLogItem, asks_inode, attribute_map, attributes_in, blocks_of_extent, content_of_extent, covered_bytes, existing_said, extent_in_item, extents_in, holes_of_extent, inode_in, is_at, is_inline_extent, made_by_mode, pairs_in_item, target_in, value_of_item, whole_by_mode, whole_said}
+use Rattle.log_image.specs.LogItems.{AreItemsOfLog, HasItsExtents, IsLogItem, asks_inode, attribute_map, attributes_in, blocks_of_extent, changes_in, content_of_extent, covered_bytes, existing_said, extent_in_item, extents_in, holes_of_extent, inode_in, is_at, is_inline_extent, made_by_mode, pairs_in_item, target_in, value_of_item, whole_by_mode, whole_said}
 use Rattle.log_image.proofs.OneLog.{at_from, at_gives}
 use Rattle.log_image.proofs.Sayings.{kind_by_mode, made_mode_kind, same_mode, whole_mode_kind}
-use Rattle.logged_volume.specs.FlatLog.{FileChanges, FlatLog, WholeDir, WholeFile, WholeInode, WholeLink, is_whole}
+use Rattle.logged_volume.specs.FlatLog.{FileChanges, FlatLog, WholeDir, WholeFile, WholeInode, WholeLink, is_logged, is_whole}
 use Rattle.tree_check.specs.Items.{HaveKeys}
 use Rattle.tree_frame.specs.Frame.{with_item}
 use Rattle.volume_image.specs.Subvolume.{AreItemsOf, Data, item_addresses, make_key, mode_of}
 use Rattle.volume_image.proofs.Lists.{in_cons, in_nothing}
 use Rattle.volume_image.proofs.Members.{filter_in, flat_map_in, in_filter}
 use Rattle.flat_model.proofs.Lists.{filter_empties}
-use Rattle.log_items.specs.Inode.{HasItsKind, file_with_had, value_to_log, whole_with_had, with_attributes, with_existing, with_items_at, with_own_items, with_target, with_whole}
+use Rattle.item_edit.specs.ItemEdit.{HasInode}
+use Rattle.tree_range.proofs.Found.{contains_under}
+use Rattle.volume_image.specs.Subvolume.{IsInodeOf, size_of}
+use Rattle.volume_image.proofs.Asked.{asked_inode}
+use Rattle.volume_image.proofs.Spellings.{inode_is_one}
+use Rattle.log_items.specs.Inode.{HasItsKind, with_inode, file_with_had, value_to_log, whole_with_had, with_attributes, with_existing, with_items_at, with_own_items, with_target, with_whole}
 use Rattle.log_items.proofs.HasItem.{find_some, own_item, whole_none, whole_some}
 use Rattle.log_items.proofs.Own.{AreOwn, HasOwn, SaysOwn, attributes_now, extents_now, log_with_own, three_have}
 use Rattle.cow_tree.proofs.Items.{lower, lower_below, rise_append, rise_filter, upper, upper_above, with_rise}
@@ -37,6 +42,7 @@ use Rattle.log_items.proofs.Writings.{at_in_order, keys_between, keys_with_range
 use Rattle.tree_range.specs.Between.{items_between, items_from}
 use Rattle.leaf_view.specs.KeyOrder.{KeyBelow_trans}
 use Rattle.leaf_view.proofs.Rising.{key_below_means}
+use Rattle.log_items.proofs.Rises.{range_rises}
 use Rattle.log_items.proofs.Parts.{IsPart, keeps_others, part_stays, part_with_item, part_with_items}
 use Rattle.log_items.proofs.Theirs.{attribute_logged, extent_logged, link_item, their_attributes}
 
@@ -153,52 +159,24 @@ module _ (ino : ℕ) (items : List Item) (blocks : Data) (log : FlatLog) (inode 
               let mode : said.mode ≡ file_mode = sym (had_mode said f) ∙ ap mode_of is in
               let said_is : cond (nat_eq said.generation 0) None (Some (whole_by_mode items blocks ino said)) ≡ Some (WholeFile had) = sym (h.whole ino ∙ ap (whole_said items blocks ino) f) ∙ e in
               let changed = by_generation (nat_eq said.generation 0) said_is in
-              let by_mode : whole_by_mode items blocks ino said ≡ WholeFile (Rattle.log_image.specs.LogItems.changes_in items blocks ino said) = rw mode refl in
-              let had_is : Rattle.log_image.specs.LogItems.changes_in items blocks ino said ≡ had = ap changes_of (sym by_mode ∙ changed) in
+              let by_mode : whole_by_mode items blocks ino said ≡ WholeFile (changes_in items blocks ino said) = rw mode refl in
+              let had_is : changes_in items blocks ino said ≡ had = ap changes_of (sym by_mode ∙ changed) in
               ap WholeFile (λ i. record { attributes = same i; size = file.size; blocks = (ap (λ (c : FileChanges). c.blocks) had_is) i; holes = (ap (λ (c : FileChanges). c.holes) had_is) i })
             where
               by_generation : (b : Bool) → cond b None (Some (whole_by_mode items blocks ino said)) ≡ Some (WholeFile had) → whole_by_mode items blocks ino said ≡ WholeFile had
               by_generation true q = absurd cc
               by_generation false q = cc
 
--- ---- rising items
-
-rise_join : (xs ys : List Item) → ((x y : Item) → Contains xs x → Contains ys y → KeyBelow x.0 y.0) → ItemsRise xs → ItemsRise ys → ItemsRise (xs ++ ys)
-rise_join xs [] below one two = subst ItemsRise (sym (append_nothing xs)) one
-  where
-    append_nothing : (l : List Item) → l ++ [] ≡ l
-    append_nothing [] = refl
-    append_nothing (x ∷ xs) = ap (λ (l : List Item). x ∷ l) (append_nothing xs)
-rise_join xs (y ∷ ys) below one two = rise_append xs y ys (all_of (λ (x : Item). KeyBelow x.0 y.0) xs (λ x c. below x y c (Rattle.volume_image.proofs.Reaches.head_in y ys))) one two
-
-module _ (first last : Key) (current items : List Item) (order : key_below last first ≡ false) (theirs : ItemsRise current) (rise : ItemsRise items) where
-  abbrev part : List Item
-  part = items_between first last current
-
-  in_part : (y : Item) → Contains part y → (key_below y.0 first ≡ false) × (key_below last y.0 ≡ false)
-  in_part y c =
-      let to = in_filter (λ (x : Item). not (key_below last x.0)) (items_from first current) y c in
-      let from = in_filter (λ (x : Item). not (key_below x.0 first)) current y to.0 in
-      (not_true (key_below y.0 first) from.1, not_true (key_below last y.0) to.1)
-
-  in_lower : (x : Item) → Contains (lower first items) x → KeyBelow x.0 first
-  in_lower x c = key_below_means x.0 first (in_filter (λ (x : Item). key_below x.0 first) items x c).1
-
-  in_upper : (z : Item) → Contains (upper last items) z → KeyBelow last z.0
-  in_upper z c = key_below_means last z.0 (in_filter (λ (x : Item). key_below last x.0) items z c).1
-
-  pub range_rises : ItemsRise (with_range first last part items)
-  range_rises = rise_join (lower first items) (part ++ upper last items)
-      (λ x y c d. elim (Contains-append_cases part (upper last items) y d) [
-        | inl here ↦ below_low x.0 first y.0 (in_lower x c) (in_part y here).0
-        | inr high ↦ KeyBelow_trans x.0 last y.0 (below_low x.0 first last (in_lower x c) order) (in_upper y high)
-      ])
-      (rise_filter (λ (x : Item). key_below x.0 first) items rise)
-      (rise_join part (upper last items) (λ y z c d. low_below y.0 last z.0 (in_part y c).1 (in_upper z d))
-      (rise_filter (λ (x : Item). not (key_below last x.0)) (items_from first current) (rise_filter (λ (x : Item). not (key_below x.0 first)) current theirs))
-      (rise_filter (λ (x : Item). key_below last x.0) items rise))
-
 -- ---- the law
+
+by_file : {X : Type 0} (mode : ℕ) (file dir link : X) → mode ≡ file_mode → cond (nat_eq mode file_mode) file (cond (nat_eq mode dir_mode) dir link) ≡ file
+by_file mode file dir link m = rw m refl
+
+by_dir : {X : Type 0} (mode : ℕ) (file dir link : X) → mode ≡ dir_mode → cond (nat_eq mode file_mode) file (cond (nat_eq mode dir_mode) dir link) ≡ dir
+by_dir mode file dir link m = rw m refl
+
+by_link : {X : Type 0} (mode : ℕ) (file dir link : X) → mode ≡ link_mode → cond (nat_eq mode file_mode) file (cond (nat_eq mode dir_mode) dir link) ≡ link
+by_link mode file dir link m = rw m refl
 
 link_of : (inode : InodeRecord) → mode_of inode ≡ link_mode → (link : LinkRecord) × (inode ≡ LinkInode link)
 link_of (FileInode file) m = absurd (omega (arith, m))
@@ -344,3 +322,136 @@ module _ (ino : ℕ) (items current : List Item) (blocks theirs : Data) (log : F
     apart = the_apart (nat_eq v.mode link_mode) refl;
     blocks_there = the_blocks (nat_eq v.mode link_mode) refl;
   }
+
+  module _ (rises : ItemsRise new) where
+    attributes_said : whole ≡ true → attribute_map new ino ≡ attributes_of inode
+    attributes_said w =
+        ap from_entries (attributes_now ino items new blocks log (inode_bytes value) value attributes extents h rises has own
+        ∙ ap (λ (b : Bool). flat_map pairs_in_item (cond b (filter (is_at ino xattr_item) current) (filter (is_at ino xattr_item) items))) w)
+        ∙ their_attributes ino current theirs sub rise are inode there
+
+    extents_said : (b : Bool) → nat_eq v.mode link_mode ≡ b → extents_in new ino ≡ map extent_in_item (cond b (filter (is_at ino extent_data) current) (filter (is_at ino extent_data) items))
+    extents_said b e =
+        extents_now ino items new blocks log (inode_bytes value) value attributes extents h rises has own
+        ∙ ap (λ (c : Bool). map extent_in_item (cond c (filter (is_at ino extent_data) current) (filter (is_at ino extent_data) items))) e
+
+    target_said : (link : LinkRecord) → inode ≡ LinkInode link → target_in new ino ≡ link.target
+    target_said link is =
+        ap (flat_map content_of_extent) (extents_said true (eq-eqb v.mode link_mode (mode ∙ ap mode_of is)) ∙ link_extents link is)
+        ∙ append_nothing link.target
+      where
+        append_nothing : (l : List ℕ) → l ++ [] ≡ l
+        append_nothing [] = refl
+        append_nothing (x ∷ xs) = ap (λ (l : List ℕ). x ∷ l) (append_nothing xs)
+
+    abbrev file_said : WholeInode
+    file_said = WholeFile (changes_in new blocks ino value)
+
+    abbrev dir_said : WholeInode
+    dir_said = WholeDir (record { attributes = attribute_map new ino })
+
+    abbrev link_said : WholeInode
+    link_said = WholeLink (record { attributes = attribute_map new ino; target = target_in new ino })
+
+    -- the inode is whole
+    whole_is : whole ≡ true → (r : InodeRecord) → inode ≡ r → whole_by_mode new blocks ino value ≡ whole_with_had (get log.whole ino) r
+    whole_is w (FileInode file) is =
+        let m : v.mode ≡ file_mode = mode ∙ ap mode_of is in
+        let not_link : nat_eq v.mode link_mode ≡ false = ap (λ (n : ℕ). nat_eq n link_mode) m in
+        let said : extents_in new ino ≡ map extent_in_item (filter (is_at ino extent_data) items) = extents_said false not_link in
+        by_file v.mode file_said dir_said link_said m
+        ∙ ap WholeFile (λ i. record { attributes = attribute_map new ino; size = size file is i; blocks = from_entries (flat_map (blocks_of_extent blocks) (said i)); holes = flat_map holes_of_extent (said i) })
+        ∙ had_changes ino items blocks log inode h kind file is (attribute_map new ino) (attributes_said w ∙ ap attributes_of is)
+    whole_is w (DirInode dir) is =
+        by_dir v.mode file_said dir_said link_said (mode ∙ ap mode_of is) ∙ ap WholeDir (λ i. record { attributes = (attributes_said w ∙ ap attributes_of is) i })
+    whole_is w (LinkInode link) is =
+        by_link v.mode file_said dir_said link_said (mode ∙ ap mode_of is)
+        ∙ ap WholeLink (λ i. record { attributes = (attributes_said w ∙ ap attributes_of is) i; target = target_said link is i })
+
+    made_is : (r : InodeRecord) → inode ≡ r → made_by_mode new ino value ≡ at_creation r
+    made_is (FileInode file) is = by_file v.mode new_file new_dir (new_link (target_in new ino)) (mode ∙ ap mode_of is)
+    made_is (DirInode dir) is = by_dir v.mode new_file new_dir (new_link (target_in new ino)) (mode ∙ ap mode_of is)
+    made_is (LinkInode link) is = by_link v.mode new_file new_dir (new_link (target_in new ino)) (mode ∙ ap mode_of is) ∙ ap new_link (target_said link is)
+
+    generation_is : (b : Bool) → whole ≡ b → nat_eq value.generation 0 ≡ not b
+    generation_is true e = ap (λ (b : Bool). nat_eq (cond b (max v.generation 1) 0) 0) e ∙ false_from_ne_true (nat_eq (max v.generation 1) 0) (λ z. not_zero v.generation (eqb-true (max v.generation 1) 0 z))
+    generation_is false e = ap (λ (b : Bool). nat_eq (cond b (max v.generation 1) 0) 0) e
+
+    pub log_with_whole : whole ≡ true → AreItemsOfLog new blocks (with_whole ino inode log)
+    log_with_whole w = log_with_own ino items new blocks log (inode_bytes value) value attributes extents h rises has own (with_whole ino inode log) (record {
+      whole =
+          get_insert_same log.whole ino (whole_with_had (get log.whole ino) inode) ∙ ap Some (sym (whole_is w inode refl))
+          ∙ ap (λ (b : Bool). cond b None (Some (whole_by_mode new blocks ino value))) (sym (generation_is true w));
+      existing = get_remove_same log.existing ino ∙ ap (λ (b : Bool). cond b (Some (made_by_mode new ino value)) None) (sym (generation_is true w));
+      others_whole = λ other apart. get_insert_other log.whole ino (whole_with_had (get log.whole ino) inode) other apart;
+      others_existing = λ other apart. get_remove_other log.existing ino other apart;
+      names = refl;
+      ranges = refl;
+      entries = refl;
+    })
+
+    pub log_with_existing : whole ≡ false → AreItemsOfLog new blocks (with_existing ino inode log)
+    log_with_existing w =
+        subst (λ (b : Bool). AreItemsOfLog new blocks (cond b log (record log { existing = insert log.existing ino (at_creation inode) }))) (sym (ap is_some (may w)))
+        (log_with_own ino items new blocks log (inode_bytes value) value attributes extents h rises has own (record log { existing = insert log.existing ino (at_creation inode) }) (record {
+          whole = may w ∙ ap (λ (b : Bool). cond b None (Some (whole_by_mode new blocks ino value))) (sym (generation_is false w));
+          existing =
+              get_insert_same log.existing ino (at_creation inode) ∙ ap Some (sym (made_is inode refl))
+              ∙ ap (λ (b : Bool). cond b (Some (made_by_mode new ino value)) None) (sym (generation_is false w));
+          others_whole = λ other apart. refl;
+          others_existing = λ other apart. get_insert_other log.existing ino (at_creation inode) other apart;
+          names = refl;
+          ranges = refl;
+          entries = refl;
+        }))
+
+-- the law, for both
+pub log_with_inode : (ino : ℕ) (items current : List Item) (blocks theirs : Data) (log : FlatLog) (sub : Subvolume) (inode : InodeRecord) (v : InodeValue) (whole : Bool) → AreItemsOfLog items blocks log → HasItsKind log ino inode → HaveKeys items → HaveKeys current → ItemsRise current
+    → AreItemsOf current theirs sub → get sub.inodes ino ≡ Some inode → HasInode current ino v → IsInode (inode_bytes (value_to_log whole v)) (value_to_log whole v) → (whole ≡ false → is_whole log ino ≡ false) → ItemsRise (with_own_items ino whole (value_to_log whole v) current items)
+    → AreItemsOfLog (with_own_items ino whole (value_to_log whole v) current items) blocks (with_inode ino whole inode log)
+log_with_inode ino items current blocks theirs log sub inode v whole h kind keys their_keys rise are there says spelled bare rises = by_whole whole refl
+  where
+    key : Key
+    key = make_key ino inode_item 0
+
+    asked : (r : InodeRecord) × (key.offset ≡ 0) × (get sub.inodes ino ≡ Some r) × IsInodeOf sub ino r says.bytes
+    asked = asked_inode sub theirs key says.bytes refl (are.only key says.bytes (contains_under current key says.bytes says.there))
+
+    some_inode : (x y : InodeRecord) → Some x ≡ Some y → x ≡ y
+    some_inode x y e = cc
+
+    is : IsInodeOf sub ino inode says.bytes
+    is = subst (λ (r : InodeRecord). IsInodeOf sub ino r says.bytes) (some_inode asked.0 inode (sym asked.2 ∙ there)) asked.3
+
+    value_is : is.value ≡ v
+    value_is = inode_is_one says.bytes is.value v is.spelled says.spelled
+
+    mode : v.mode ≡ mode_of inode
+    mode = ap (λ (w : InodeValue). w.mode) (sym value_is) ∙ is.mode
+
+    size : (file : FileRecord) → inode ≡ FileInode file → v.size ≡ file.size
+    size file same = ap (λ (w : InodeValue). w.size) (sym value_is) ∙ is.size ∙ ap (size_of sub ino) same
+
+    none : (o : Option WholeInode) → is_some o ≡ false → o ≡ None
+    none None e = refl
+    none (Some had) e = absurd (true≢false e)
+
+    may : whole ≡ false → get log.whole ino ≡ None
+    may w = none (get log.whole ino) (bare w)
+
+    by_whole : (b : Bool) → whole ≡ b → AreItemsOfLog (with_own_items ino whole (value_to_log whole v) current items) blocks (with_inode ino whole inode log)
+    by_whole true w =
+        subst (λ (b : Bool). AreItemsOfLog (with_own_items ino whole (value_to_log whole v) current items) blocks (with_inode ino b inode log)) (sym w)
+        (log_with_whole ino items current blocks theirs log sub inode v whole h kind keys their_keys rise are there mode size spelled may rises w)
+    by_whole false w =
+        subst (λ (b : Bool). AreItemsOfLog (with_own_items ino whole (value_to_log whole v) current items) blocks (with_inode ino b inode log)) (sym w)
+        (log_with_existing ino items current blocks theirs log sub inode v whole h kind keys their_keys rise are there mode size spelled may rises w)
+
+-- the log has the inode then
+pub inode_logged : (ino : ℕ) (whole : Bool) (inode : InodeRecord) (log : FlatLog) → is_logged (with_inode ino whole inode log) ino ≡ true
+inode_logged ino true inode log = rw (get_insert_same log.whole ino (whole_with_had (get log.whole ino) inode)) refl
+inode_logged ino false inode log = go (is_whole log ino) refl
+  where
+    go : (b : Bool) → is_whole log ino ≡ b → is_logged (cond b log (record log { existing = insert log.existing ino (at_creation inode) })) ino ≡ true
+    go true e = rw e refl
+    go false e = rw (e, get_insert_same log.existing ino (at_creation inode)) refl

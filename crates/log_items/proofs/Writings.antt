@@ -17,6 +17,12 @@ use Rattle.std.proofs.lemmas.Bool.{false_from_ne_true}
 use Rattle.tree_frame.specs.Frame.{with_item}
 use Rattle.log_items.specs.Inode.{first_at, items_at, last_at, with_attributes, with_items_at, with_target}
 use Rattle.log_items.proofs.Copying.{below_itself, between, with_range_count}
+use Rattle.cow_tree.proofs.Items.{with_rise}
+use Rattle.blk_base.specs.Items.{InodeValue, inode_bytes}
+use Rattle.blk_base.specs.Keys.{inode_item}
+use Rattle.volume_image.specs.Subvolume.{make_key}
+use Rattle.log_items.specs.Inode.{own_count, with_own_items}
+use Rattle.log_items.proofs.Rises.{range_rises}
 use Rattle.tree_check.specs.Items.{HaveKeys}
 use Rattle.tree_frame.proofs.EditLaws.{edits_join, nothing_is_an_edit}
 use Rattle.tree_range.specs.Between.{items_between, items_from}
@@ -136,3 +142,17 @@ target_count ino mode current items rise = go (nat_eq mode link_mode)
     go : (b : Bool) → length (cond b (with_items_at ino extent_data current items) items) ≤ length items + cond b (length (items_at ino extent_data current)) 0
     go true = items_count ino extent_data current items rise
     go false = omega arith
+
+pub own_items_count : (ino : ℕ) (whole : Bool) (value : InodeValue) (current items : List Item) → ItemsRise current → ItemsRise items → length (with_own_items ino whole value current items) ≤ length items + own_count ino whole value.mode current
+own_items_count ino whole value current items theirs rise =
+    let one : List Item = with_item (make_key ino inode_item 0) (inode_bytes value) items in
+    let one_rises : ItemsRise one = with_rise (make_key ino inode_item 0) (inode_bytes value) items rise in
+    let two : List Item = with_attributes ino whole current one in
+    let first = item_count (make_key ino inode_item 0) (inode_bytes value) items rise in
+    let second = attributes_count ino whole current one one_rises in
+    let third = target_count ino value.mode current two (rises whole one one_rises) in
+    omega (arith, first, second, third)
+  where
+    rises : (b : Bool) (one : List Item) → ItemsRise one → ItemsRise (with_attributes ino b current one)
+    rises true one h = range_rises (first_at ino xattr_item) (last_at ino xattr_item) current one (at_in_order ino xattr_item) theirs h
+    rises false one h = h

@@ -15,3 +15,4 @@ mod whole;
 
 pub use inode::forget;
 pub use names::write_names;
+pub use whole::write_inode;

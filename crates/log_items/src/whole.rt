@@ -1,4 +1,4 @@
-ghost use Rattle.std.specs.Prelude.{◌≡◌, ◌⊎◌, ◌+◌, ℕ, Bool, List, cond, length, max, nat_eq, Some};
+ghost use Rattle.std.specs.Prelude.{◌≡◌, ◌⊎◌, ◌≤◌, ◌+◌, ℕ, Bool, List, cond, length, max, nat_eq, Some};
 ghost use Rattle.std.specs.FinMap.{get};
 ghost use Rattle.blk_base.specs.Items.{InodeValue, IsInode, dir_mode, file_mode, inode_bytes, link_mode};
 ghost use Rattle.blk_base.specs.Keys.{extent_data, xattr_item};
@@ -105,4 +105,59 @@ fn item_to_log(item: &InodeItem, whole: bool) -> InodeItem
         generation: if whole { item.generation.max(1) } else { 0 },
         ..*item
     }
+}
+
+/// Writes the own items of an inode into a log, whole or as one that only exists, but for one that is whole in the log and
+/// should only exist.
+fn write_own_items_unless_whole(table: &mut BlockTable, log: &mut Tree, sub: &SubState, ino: Ino, whole: bool)
+    requires may { MayWrite table.old log.old sub.now.tree }
+    requires given { (value : InodeValue) × HasInode (tree_items table.old sub.now.tree) ino.0 value
+        × HasRoomFor table.old log.old (own_count ino.0 whole value.mode (tree_items table.old sub.now.tree)) }
+    ensures log { (blocks data_there : Data) (flat : FlatLog) (current : Subvolume) (inode : InodeRecord)
+        → AreItemsOfLog (tree_items table.old log.old) blocks flat → AreItemsOf (tree_items table.old sub.now.tree) data_there current
+        → get current.inodes ino.0 ≡ Some inode → HasItsKind flat ino.0 inode
+        → AreItemsOfLog (tree_items table.new log.new) blocks (with_inode ino.0 whole inode flat) }
+    ensures count { (value : InodeValue) → HasInode (tree_items table.old sub.now.tree) ino.0 value
+        → length (tree_items table.new log.new) ≤ length (tree_items table.old log.old) + own_count ino.0 whole value.mode (tree_items table.old sub.now.tree) }
+    ensures writing { IsWriting table.old log.old sub.now.tree table.new log.new }
+{
+    if whole || !has_whole(table, log, ino) {
+        let item = item_to_log(&inode_at(table, &sub.tree, ino), whole);
+        write_own_items(table, log, &sub.tree, ino, whole, &item);
+    }
+}
+
+/// Writes an inode into a log, whole or as one that only exists, with the names that its subvolume has of it (inode and
+/// names of btrfs_log_inode in fs/btrfs/tree-log.c). Whole it has its item with a generation, its attributes, and of a symlink the
+/// target; of a file the blocks and the holes stay that the log has (none where it hasn't the inode whole). One that only
+/// exists has its item with generation 0, and of a symlink the target; an inode that is whole in the log stays so, and only its
+/// names are written. The log's tree and the subvolume's share no block, and the subvolume's, which has the inode, stays. The
+/// log's has room for so many items as are written at most.
+pub fn write_inode(table: &mut BlockTable, log: &mut Tree, sub: &SubState, ino: Ino, whole: bool)
+    requires tree { IsTree table.old log.old }
+    requires current { AreCurrent table.old (tree_reach table.old log.old) }
+    requires keys { HaveKeys (tree_items table.old log.old) }
+    requires from { IsTree table.old sub.now.tree }
+    requires from_keys { HaveKeys (tree_items table.old sub.now.tree) }
+    requires apart { AreApart (tree_reach table.old log.old) (tree_reach table.old sub.now.tree) }
+    requires given { (value : InodeValue) × HasInode (tree_items table.old sub.now.tree) ino.0 value
+        × HasRoomFor table.old log.old (inode_count ino.0 whole value.mode (tree_items table.old sub.now.tree)) }
+    ensures tree { IsTree table.new log.new }
+    ensures log { (blocks data_there : Data) (flat : FlatLog) (current : Subvolume) (inode : InodeRecord)
+        → AreItemsOfLog (tree_items table.old log.old) blocks flat → AreItemsOf (tree_items table.old sub.now.tree) data_there current → IsCoherent current
+        → get current.inodes ino.0 ≡ Some inode → HasItsKind flat ino.0 inode
+        → AreItemsOfLog (tree_items table.new log.new) blocks (renamed ino.0 current (with_inode ino.0 whole inode flat)) }
+    ensures keys { HaveKeys (tree_items table.new log.new) }
+    ensures owner { log.new.owner ≡ log.old.owner }
+    ensures edit { IsEdit table.old table.new (tree_reach table.old log.old) (tree_reach table.new log.new) }
+    ensures current { AreCurrent table.new (tree_reach table.new log.new) }
+    ensures from { AreAlike table.old table.new (tree_reach table.old sub.now.tree) }
+    ensures sealed { (fsid : List ℕ) (was : ℕ) → IsSealedTree table.old log.old fsid was → (now : ℕ) × IsSealedTree table.new log.new fsid now }
+    ensures blocks { room_of_tree table.new log.new ≡ room_of_tree table.old log.old }
+    ensures buffers { spare_of_tree table.new log.new ≡ spare_of_tree table.old log.old }
+    ensures room { (value : InodeValue) (more : ℕ) → HasInode (tree_items table.old sub.now.tree) ino.0 value
+        → HasRoomFor table.old log.old (more + inode_count ino.0 whole value.mode (tree_items table.old sub.now.tree)) → HasRoomFor table.new log.new more }
+{
+    write_own_items_unless_whole(table, log, sub, ino, whole);
+    write_names(table, log, sub, ino);
 }
