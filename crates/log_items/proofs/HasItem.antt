@@ -1,21 +1,16 @@
 -- The item of an inode in a log, found by its key.
-use Rattle.std.proofs.Common.{◌≡◌, ◌∙◌, ◌++◌, ℕ, Bool, true, false, not, cond, List, [], ◌∷◌, Contains, Option, Some, None, Result, Ok, nat_eq, find, refl, sym, ap, subst, inl, inr}
-use Rattle.std.specs.FinMap.{get}
+use Rattle.std.proofs.Common.{◌≡◌, ◌∙◌, ℕ, Bool, true, false, not, cond, List, [], ◌∷◌, Contains, Option, Some, None, nat_eq, find, refl, sym, ap, subst, inl, inr}
 use Rattle.std.specs.Option.{is_some}
 use Rattle.std.proofs.lemmas.Bool.{true≢false}
-use Rattle.blk_base.specs.declared.fault.ItemFault.{ItemFault}
 use Rattle.blk_base.specs.declared.key.Key.{Key}
-use Rattle.blk_base.specs.Items.{InodeValue, IsInode, inode_of, inode_value}
+use Rattle.blk_base.specs.Items.{InodeValue, IsInode, inode_value}
 use Rattle.blk_base.specs.Keys.{inode_item}
 use Rattle.blk_base.specs.Leaf.{Item}
-use Rattle.format_laws.specs.Items.{inode_of-Ok}
 use Rattle.image_faults.proofs.Rising.{key_once}
-use Rattle.item_inode.specs.declared.inode.InodeItem.{InodeItem}
-use Rattle.item_inode.specs.Inode.{answer_view, inode_view}
 use Rattle.logged_volume.specs.FlatLog.{FlatLog, is_whole}
 use Rattle.log_image.specs.LogItems.{AreItemsOfLog, inode_in, is_at, value_of_item, whole_said}
 use Rattle.log_image.proofs.OneLog.{at_from}
-use Rattle.log_image.proofs.Sayings.{find_gives, said_by}
+use Rattle.log_image.proofs.Sayings.{said_by}
 use Rattle.tree_range.specs.Between.{data_under}
 use Rattle.tree_range.proofs.Found.{contains_under, under_contains}
 use Rattle.volume_image.specs.Subvolume.{Data, make_key}

@@ -1,18 +1,17 @@
 -- A log's items with other own items of an inode: item, attributes and extents. Which log they are.
-use Rattle.std.proofs.Common.{◌≡◌, ◌≢◌, ◌≤◌, ◌<◌, ◌+◌, ◌&&◌, ◌||◌, ◌∙◌, ◌⊎◌, ◌++◌, ℕ, Bool, true, false, not, cond, List, [], ◌∷◌, Contains, Option, Some, None, nat_eq, filter, find, flat_map, map, refl, sym, ap, ap₂, subst, inl, inr, arith}
+use Rattle.std.proofs.Common.{◌≡◌, ◌≢◌, ◌≤◌, ◌<◌, ◌+◌, ◌||◌, ◌∙◌, ◌⊎◌, ℕ, Bool, true, false, not, List, [], ◌∷◌, Contains, Option, Some, None, nat_eq, filter, flat_map, map, refl, sym, ap, subst, inl, inr, arith}
 use Rattle.std.specs.FinMap.{get}
 use Rattle.std.proofs.lemmas.Bool.{cases_Bool, eq-eqb, eqb-true, false_from_ne_true, true≢false}
 use Rattle.blk_base.specs.declared.key.Key.{Key}
-use Rattle.blk_base.specs.Items.{InodeValue, IsInode, inode_value}
+use Rattle.blk_base.specs.Items.{InodeValue, IsInode}
 use Rattle.blk_base.specs.Keys.{extent_data, inode_item, xattr_item}
 use Rattle.blk_base.specs.Leaf.{Item}
 use Rattle.blk_base.specs.Trees.{ItemsRise}
 use Rattle.flat_model.specs.Names.{FlatName, name_set, stands_in}
-use Rattle.flat_model.specs.Records.{InodeRecord}
-use Rattle.log_image.specs.LogItems.{AreItemsOfLog, HasItsExtents, IsLogItem, asks_inode, attributes_in, covered_bytes, entries_in_item, existing_said, existing_in, extent_in_item, extents_in, inode_in, is_at, names_in, names_in_item, pairs_in_item, ranges_in_item, value_of_item, whole_in, whole_said}
-use Rattle.log_image.proofs.OneLog.{at_from, at_gives}
+use Rattle.log_image.specs.LogItems.{AreItemsOfLog, HasItsExtents, IsLogItem, asks_inode, attributes_in, covered_bytes, entries_in_item, existing_said, existing_in, extent_in_item, extents_in, inode_in, is_at, names_in_item, pairs_in_item, ranges_in_item, value_of_item, whole_in, whole_said}
+use Rattle.log_image.proofs.OneLog.{at_gives}
 use Rattle.log_image.proofs.Sayings.{in_flat_map}
-use Rattle.logged_volume.specs.FlatLog.{AreDistinct, FlatLog, WholeInode}
+use Rattle.logged_volume.specs.FlatLog.{AreDistinct, FlatLog}
 use Rattle.volume_image.specs.Subvolume.{Data, item_addresses, make_key}
 use Rattle.volume_image.proofs.Lists.{in_cons, in_nothing}
 use Rattle.volume_image.proofs.Members.{filter_in, flat_map_in, in_filter}

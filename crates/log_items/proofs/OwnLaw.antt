@@ -1,8 +1,8 @@
 -- The log of the items of a log with an inode's own items, whole or as existing.
-use Rattle.std.proofs.Common.{◌≡◌, ◌≢◌, ◌<◌, ◌+◌, ◌≤◌, ◌&&◌, ◌∙◌, ◌⊎◌, ◌++◌, ℕ, Bool, true, false, not, cond, max, List, [], ◌∷◌, Contains, Option, Some, None, nat_eq, filter, flat_map, map, find, refl, sym, ap, subst, inl, inr, arith}
-use Rattle.std.specs.FinMap.{empty, from_entries, get, insert, remove}
+use Rattle.std.proofs.Common.{◌≡◌, ◌≢◌, ◌<◌, ◌+◌, ◌≤◌, ◌∙◌, ◌++◌, ℕ, Bool, true, false, not, cond, max, List, [], ◌∷◌, Contains, Option, Some, None, nat_eq, filter, flat_map, map, refl, sym, ap, subst, inl, inr, arith}
+use Rattle.std.specs.FinMap.{from_entries, get, insert}
 use Rattle.std.specs.Option.{is_some}
-use Rattle.std.proofs.lemmas.Bool.{cases_Bool, eq-eqb, eqb-true, false_from_ne_true, true≢false}
+use Rattle.std.proofs.lemmas.Bool.{eq-eqb, eqb-true, false_from_ne_true, true≢false}
 use Rattle.blk_base.specs.declared.key.Key.{Key}
 use Rattle.blk_base.specs.Items.{InodeValue, IsInode, dir_mode, file_mode, inode_bytes, link_mode}
 use Rattle.blk_base.specs.Keys.{extent_data, inode_item, xattr_item}
@@ -12,36 +12,28 @@ use Rattle.blk_base.specs.Extents.{ExtentValue, Inline}
 use Rattle.flat_model.specs.Records.{FileRecord, InodeRecord, LinkRecord, DirInode, FileInode, LinkInode, at_creation, attributes_of, kind_of, new_dir, new_file, new_link}
 use Rattle.flat_model.specs.Volume.{Subvolume}
 use Rattle.flat_model.proofs.Maps.{get_insert_other, get_insert_same, get_remove_other, get_remove_same}
-use Rattle.log_image.specs.LogItems.{AreItemsOfLog, HasItsExtents, IsLogItem, asks_inode, attribute_map, attributes_in, blocks_of_extent, changes_in, content_of_extent, covered_bytes, existing_said, extent_in_item, extents_in, holes_of_extent, inode_in, is_at, is_inline_extent, made_by_mode, pairs_in_item, target_in, value_of_item, whole_by_mode, whole_said}
-use Rattle.log_image.proofs.OneLog.{at_from, at_gives}
+use Rattle.log_image.specs.LogItems.{AreItemsOfLog, HasItsExtents, IsLogItem, asks_inode, attribute_map, blocks_of_extent, changes_in, content_of_extent, covered_bytes, existing_said, extent_in_item, extents_in, holes_of_extent, inode_in, is_at, made_by_mode, pairs_in_item, target_in, whole_by_mode, whole_said}
+use Rattle.log_image.proofs.OneLog.{at_gives}
 use Rattle.log_image.proofs.Sayings.{kind_by_mode, made_mode_kind, same_mode, whole_mode_kind}
 use Rattle.logged_volume.specs.FlatLog.{FileChanges, FlatLog, WholeDir, WholeFile, WholeInode, WholeLink, is_logged, is_whole}
 use Rattle.tree_check.specs.Items.{HaveKeys}
 use Rattle.tree_frame.specs.Frame.{with_item}
 use Rattle.volume_image.specs.Subvolume.{AreItemsOf, Data, item_addresses, make_key, mode_of}
 use Rattle.volume_image.proofs.Lists.{in_cons, in_nothing}
-use Rattle.volume_image.proofs.Members.{filter_in, flat_map_in, in_filter}
+use Rattle.volume_image.proofs.Members.{flat_map_in, in_filter}
 use Rattle.flat_model.proofs.Lists.{filter_empties}
 use Rattle.item_edit.specs.ItemEdit.{HasInode}
 use Rattle.tree_range.proofs.Found.{contains_under}
 use Rattle.volume_image.specs.Subvolume.{IsInodeOf, size_of}
 use Rattle.volume_image.proofs.Asked.{asked_inode}
 use Rattle.volume_image.proofs.Spellings.{inode_is_one}
-use Rattle.log_items.specs.Inode.{HasItsKind, with_inode, file_with_had, value_to_log, whole_with_had, with_attributes, with_existing, with_items_at, with_own_items, with_target, with_whole}
-use Rattle.log_items.proofs.HasItem.{find_some, own_item, whole_none, whole_some}
-use Rattle.log_items.proofs.Own.{AreOwn, HasOwn, SaysOwn, attributes_now, extents_now, log_with_own, three_have}
-use Rattle.cow_tree.proofs.Items.{lower, lower_below, rise_append, rise_filter, upper, upper_above, with_rise}
-use Rattle.std.proofs.lemmas.List.Elements.{All-contains, Contains-append_cases}
-use Rattle.log_image.proofs.Limits.{all_of}
-use Rattle.blk_base.specs.Keys.{KeyBelow, key_below}
-use Rattle.log_items.specs.Copied.{with_range}
+use Rattle.log_items.specs.Inode.{HasItsKind, with_inode, file_with_had, value_to_log, whole_with_had, with_attributes, with_existing, with_items_at, with_own_items, with_whole}
+use Rattle.log_items.proofs.HasItem.{own_item}
+use Rattle.log_items.proofs.Own.{AreOwn, HasOwn, attributes_now, extents_now, log_with_own, three_have}
+use Rattle.cow_tree.proofs.Items.{with_rise}
 use Rattle.log_items.specs.Inode.{first_at, items_at, last_at}
-use Rattle.log_items.proofs.Copying.{below_low, low_below, not_true}
 use Rattle.log_items.proofs.Walk.{keys_with}
 use Rattle.log_items.proofs.Writings.{at_in_order, keys_between, keys_with_range}
-use Rattle.tree_range.specs.Between.{items_between, items_from}
-use Rattle.leaf_view.specs.KeyOrder.{KeyBelow_trans}
-use Rattle.leaf_view.proofs.Rising.{key_below_means}
 use Rattle.log_items.proofs.Rises.{range_rises}
 use Rattle.log_items.proofs.Parts.{IsPart, keeps_others, part_stays, part_with_item, part_with_items}
 use Rattle.log_items.proofs.Theirs.{attribute_logged, extent_logged, link_item, their_attributes}

@@ -1,16 +1,15 @@
 -- The items of one type of an inode, replaced by others: which there are then, and which stay.
-use Rattle.std.proofs.Common.{◌≡◌, ◌≢◌, ◌≤◌, ◌<◌, ◌&&◌, ◌∙◌, ◌⊎◌, ◌++◌, ℕ, Bool, true, false, not, cond, List, [], ◌∷◌, Contains, Option, Some, None, nat_eq, filter, find, flat_map, refl, sym, ap, ap₂, subst, inl, inr, arith}
-use Rattle.std.specs.Option.{option_or}
-use Rattle.std.proofs.lemmas.Bool.{cases_Bool, eq-eqb, eqb-true, false_from_ne_true, true≢false}
+use Rattle.std.proofs.Common.{◌≡◌, ◌≤◌, ◌<◌, ◌&&◌, ◌∙◌, ◌⊎◌, ◌++◌, ℕ, Bool, true, false, not, cond, List, [], ◌∷◌, Contains, Option, Some, None, filter, find, flat_map, refl, sym, ap, ap₂, subst, inl, inr, arith}
+use Rattle.std.proofs.lemmas.Bool.{false_from_ne_true, true≢false}
 use Rattle.std.proofs.lemmas.List.Elements.{filter-append}
 use Rattle.blk_base.specs.declared.key.Key.{Key}
-use Rattle.blk_base.specs.Keys.{KeyFits, inode_item, key_below}
+use Rattle.blk_base.specs.Keys.{KeyFits, key_below}
 use Rattle.blk_base.specs.Leaf.{Item}
 use Rattle.blk_base.specs.Trees.{ItemsRise}
 use Rattle.cow_tree.proofs.Items.{lower, upper}
 use Rattle.flat_model.proofs.Lists.{filter_empties, filter_keeps, filter_swaps}
-use Rattle.leaf_view.specs.KeyOrder.{KeyBelow_from, KeyBelow_parts}
-use Rattle.leaf_view.proofs.Rising.{key_below_from, key_below_means}
+use Rattle.leaf_view.specs.KeyOrder.{KeyBelow_parts}
+use Rattle.leaf_view.proofs.Rising.{key_below_means}
 use Rattle.log_image.specs.LogItems.{is_at}
 use Rattle.log_image.proofs.OneLog.{at_from, at_gives}
 use Rattle.log_items.specs.Copied.{with_range}
@@ -20,10 +19,10 @@ use Rattle.log_items.proofs.Renamed.{filter_past}
 use Rattle.log_items.proofs.Writings.{at_in_order}
 use Rattle.tree_check.specs.Items.{HaveKeys}
 use Rattle.tree_frame.specs.Frame.{with_item}
-use Rattle.tree_range.specs.Between.{items_between, items_from}
+use Rattle.tree_range.specs.Between.{items_from}
 use Rattle.volume_image.specs.Subvolume.{make_key}
 use Rattle.volume_image.proofs.Lists.{in_cons, in_nothing}
-use Rattle.volume_image.proofs.Members.{filter_in, in_filter}
+use Rattle.volume_image.proofs.Members.{in_filter}
 use Rattle.volume_image.proofs.Reaches.{head_in, tail_in}
 
 -- ---- lists

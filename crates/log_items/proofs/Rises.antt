@@ -1,5 +1,5 @@
 -- Items of a log with a range of another tree's items rise.
-use Rattle.std.proofs.Common.{◌≡◌, ◌++◌, ℕ, Bool, true, false, not, List, [], ◌∷◌, Contains, refl, sym, ap, subst, inl, inr}
+use Rattle.std.proofs.Common.{◌≡◌, ◌++◌, false, not, List, [], ◌∷◌, Contains, refl, sym, ap, subst, inl, inr}
 use Rattle.std.proofs.lemmas.List.Elements.{Contains-append_cases}
 use Rattle.blk_base.specs.declared.key.Key.{Key}
 use Rattle.blk_base.specs.Keys.{KeyBelow, key_below}
@@ -49,4 +49,3 @@ module _ (first last : Key) (current items : List Item) (order : key_below last 
       (rise_join part (upper last items) (λ y z c d. low_below y.0 last z.0 (in_part y c).1 (in_upper z d))
       (rise_filter (λ (x : Item). not (key_below last x.0)) (items_from first current) (rise_filter (λ (x : Item). not (key_below x.0 first)) current theirs))
       (rise_filter (λ (x : Item). key_below last x.0) items rise))
-

@@ -1,5 +1,5 @@
 -- What a subvolume's items say of an inode's attributes and of a symlink's target.
-use Rattle.std.proofs.Common.{◌≡◌, ◌≢◌, ◌<◌, ◌+◌, ◌≤◌, ◌&&◌, ◌∙◌, ◌⊎◌, ◌++◌, ℕ, Bool, true, false, not, cond, List, [], ◌∷◌, Contains, Option, Some, None, Result, Ok, Err, nat_eq, filter, flat_map, map, refl, sym, ap, subst, inl, inr, arith}
+use Rattle.std.proofs.Common.{◌≡◌, ◌∙◌, ◌⊎◌, ℕ, true, List, [], ◌∷◌, Contains, Option, Some, Result, Ok, Err, filter, flat_map, refl, sym, ap, subst, inl, inr}
 use Rattle.std.specs.Cmp.Lexicographic.{nat_list_cmp_total}
 use Rattle.std.specs.FinMap.{from_entries, get}
 use Rattle.std.proofs.lemmas.List.Elements.{All-contains}
@@ -7,8 +7,8 @@ use Rattle.blk_base.specs.declared.fault.ItemFault.{ItemFault}
 use Rattle.blk_base.specs.declared.key.Key.{Key}
 use Rattle.blk_base.specs.Crc.{name_hash_of}
 use Rattle.blk_base.specs.Entries.{EntryValue, entries_of}
-use Rattle.blk_base.specs.Extents.{ExtentValue, Inline, IsExtent, extent_of, log_extent_of}
-use Rattle.blk_base.specs.ItemFaults.{IsLogSpelled, IsSpelled, is_log_kind}
+use Rattle.blk_base.specs.Extents.{ExtentValue, Inline, IsExtent, extent_of}
+use Rattle.blk_base.specs.ItemFaults.{is_log_kind}
 use Rattle.blk_base.specs.Keys.{KeyBelow, extent_data, xattr_item}
 use Rattle.blk_base.specs.Leaf.{Item}
 use Rattle.blk_base.specs.Trees.{ItemsRise}
@@ -26,7 +26,7 @@ use Rattle.log_image.specs.LogItems.{IsLogItem, extent_in_item, is_at, pairs_in_
 use Rattle.log_image.proofs.OneLog.{at_from, at_gives}
 use Rattle.log_image.proofs.Sayings.{in_flat_map}
 use Rattle.tree_range.proofs.Rise.{rise_head}
-use Rattle.volume_image.specs.Subvolume.{AreItemsOf, Data, IsAsked, IsExtentOf, attribute_entry, attributes_asked, attributes_there, item_addresses, make_key, without_transid}
+use Rattle.volume_image.specs.Subvolume.{AreItemsOf, Data, IsExtentOf, attribute_entry, attributes_asked, attributes_there, item_addresses, make_key, without_transid}
 use Rattle.volume_image.proofs.Asked.{asked_attributes, asked_extent}
 use Rattle.volume_image.proofs.Lists.{in_cons, in_nothing}
 use Rattle.volume_image.proofs.Members.{filter_in, flat_map_in, get_in, in_filter, in_get, in_map, map_in, not_empty}

@@ -16,7 +16,7 @@ use Rattle.leaf_view.proofs.Rising.{key_below_means}
 use Rattle.std.proofs.lemmas.Bool.{false_from_ne_true}
 use Rattle.tree_frame.specs.Frame.{with_item}
 use Rattle.log_items.specs.Inode.{first_at, items_at, last_at, with_attributes, with_items_at, with_target}
-use Rattle.log_items.proofs.Copying.{below_itself, between, with_range_count}
+use Rattle.log_items.proofs.Copying.{below_itself, with_range_count}
 use Rattle.cow_tree.proofs.Items.{with_rise}
 use Rattle.blk_base.specs.Items.{InodeValue, inode_bytes}
 use Rattle.blk_base.specs.Keys.{inode_item}

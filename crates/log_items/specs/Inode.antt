@@ -1,5 +1,5 @@
 -- An inode in a log, whole or only as existing: its item, its attributes, and of a symlink its target, as a subvolume has them.
-use Rattle.std.specs.Prelude.{◌≡◌, ◌+◌, ℕ, Bool, cond, max, List, [], length, nat_eq, Option, Some, None}
+use Rattle.std.specs.Prelude.{◌≡◌, ◌+◌, ℕ, Bool, cond, max, List, [], length, nat_eq, Option, Some}
 use Rattle.std.specs.FinMap.{empty, get, insert, remove}
 use Rattle.blk_base.specs.declared.key.Key.{Key}
 use Rattle.blk_base.specs.Items.{InodeValue, inode_bytes, link_mode}

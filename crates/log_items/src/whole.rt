@@ -109,7 +109,13 @@ fn item_to_log(item: &InodeItem, whole: bool) -> InodeItem
 
 /// Writes the own items of an inode into a log, whole or as one that only exists, but for one that is whole in the log and
 /// should only exist.
-fn write_own_items_unless_whole(table: &mut BlockTable, log: &mut Tree, sub: &SubState, ino: Ino, whole: bool)
+fn write_own_items_unless_whole(
+    table: &mut BlockTable,
+    log: &mut Tree,
+    sub: &SubState,
+    ino: Ino,
+    whole: bool,
+)
     requires may { MayWrite table.old log.old sub.now.tree }
     requires given { (value : InodeValue) × HasInode (tree_items table.old sub.now.tree) ino.0 value
         × HasRoomFor table.old log.old (own_count ino.0 whole value.mode (tree_items table.old sub.now.tree)) }

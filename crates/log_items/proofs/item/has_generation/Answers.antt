@@ -1,4 +1,4 @@
-use Rattle.std.proofs.Common.{◌≡◌, ◌∙◌, Ok, Err, Bool, not, nat_eq, sym, ap}
+use Rattle.std.proofs.Common.{◌≡◌, ◌∙◌, Ok, not, nat_eq, sym, ap}
 use Rattle.blk_base.specs.Items.{InodeValue}
 use Rattle.format_laws.specs.Items.{inode_of-Ok}
 use Rattle.item_inode.specs.Inode.{answer_view, inode_view}

@@ -1,4 +1,4 @@
-use Rattle.std.proofs.Common.{◌∙◌, sym, ap, subst}
+use Rattle.std.proofs.Common.{sym, subst}
 use Rattle.format_laws.specs.Items.{InodeFits, IsInode-from_read, inode_reads_back}
 use Rattle.blk_base.specs.Items.{InodeValue, inode_bytes}
 use Rattle.item_inode.specs.Inode.{inode_view}

@@ -1,11 +1,10 @@
-use Rattle.std.proofs.Common.{◌≡◌, ◌≤◌, ◌+◌, ◌∙◌, ℕ, Bool, List, length, sym, ap, subst, arith}
+use Rattle.std.proofs.Common.{◌+◌, List, length, sym, subst, arith}
 use Rattle.blk_base.specs.Leaf.{Item}
 use Rattle.log_edit.specs.Room.{HasRoomFor, count_between}
 use Rattle.log_edit.proofs.Rooms.{for_fewer}
-use Rattle.log_image.specs.LogItems.{AreItemsOfLog}
 use Rattle.tree_range.specs.Shape.{tree_items, tree_reach}
 use Rattle.volume_image.specs.Subvolume.{AreItemsOf}
-use Rattle.log_items.specs.Inode.{inode_count, own_count, with_inode}
+use Rattle.log_items.specs.Inode.{inode_count, with_inode}
 use Rattle.log_items.specs.Names.{first_name, last_name, names_to_log}
 use Rattle.log_items.specs.Writing.{MayWrite}
 use Rattle.log_items.proofs.Copying.{kept_alike}

@@ -1,4 +1,4 @@
-use Rattle.std.proofs.Common.{◌≡◌, ◌+◌, ◌≤◌, ◌∙◌, ℕ, List, cond, length, nat_eq, sym, ap, subst, arith}
+use Rattle.std.proofs.Common.{◌+◌, ◌∙◌, ℕ, List, cond, length, nat_eq, sym, ap, subst, arith}
 use Rattle.blk_base.specs.Items.{inode_bytes, link_mode}
 use Rattle.blk_base.specs.Keys.{extent_data, inode_item, xattr_item}
 use Rattle.blk_base.specs.Leaf.{Item}

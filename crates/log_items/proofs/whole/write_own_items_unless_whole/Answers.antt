@@ -1,15 +1,14 @@
-use Rattle.std.proofs.Common.{◌≡◌, ◌⊎◌, ◌≤◌, ◌+◌, ◌∙◌, ℕ, Bool, List, cond, length, true, false, refl, sym, ap, subst, inl, inr, arith}
+use Rattle.std.proofs.Common.{◌≡◌, ◌⊎◌, ◌≤◌, ◌+◌, ◌∙◌, ℕ, Bool, List, cond, length, true, false, sym, ap, subst}
 use Rattle.std.proofs.lemmas.Bool.{true≢false}
 use Rattle.blk_base.specs.Items.{InodeValue, IsInode, dir_mode, file_mode, inode_bytes, link_mode}
 use Rattle.blk_base.specs.Leaf.{Item}
 use Rattle.blk_base.specs.Trees.{ItemsRise}
-use Rattle.item_edit.specs.ItemEdit.{HasInode}
 use Rattle.item_inode.specs.Inode.{inode_view}
 use Rattle.log_edit.specs.Room.{HasRoomFor}
 use Rattle.logged_volume.specs.FlatLog.{is_whole}
 use Rattle.log_image.specs.LogItems.{AreItemsOfLog}
 use Rattle.tree_range.specs.Shape.{tree_items}
-use Rattle.log_items.specs.Inode.{own_count, value_to_log, with_existing, with_inode, with_own_items}
+use Rattle.log_items.specs.Inode.{own_count, value_to_log, with_inode, with_own_items}
 use Rattle.log_items.proofs.OwnLaw.{log_with_inode}
 use Rattle.log_items.proofs.Writings.{own_items_count}
 use Rattle.log_items.proofs.whole.write_own_items_unless_whole.Goals as goal
