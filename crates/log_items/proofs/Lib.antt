@@ -14,3 +14,4 @@ pub mod Own
 pub mod Theirs
 pub mod OwnLaw
 pub mod Rises
+pub mod Written

@@ -4,3 +4,4 @@ pub mod Inode
 pub mod Keys
 pub mod Names
 pub mod Writing
+pub mod Written

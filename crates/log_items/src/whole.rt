@@ -1,4 +1,4 @@
-ghost use Rattle.std.specs.Prelude.{◌≡◌, ◌⊎◌, ◌≤◌, ◌+◌, ℕ, Bool, List, cond, length, max, nat_eq, Some};
+ghost use Rattle.std.specs.Prelude.{◌≡◌, ◌⊎◌, ◌≤◌, ◌+◌, ℕ, Bool, List, cond, length, max, nat_eq, true, Some};
 ghost use Rattle.std.specs.FinMap.{get};
 ghost use Rattle.blk_base.specs.Items.{InodeValue, IsInode, dir_mode, file_mode, inode_bytes, link_mode};
 ghost use Rattle.blk_base.specs.Keys.{extent_data, xattr_item};
@@ -16,7 +16,7 @@ ghost use Rattle.logged_volume.specs.FlatLog.{FlatLog};
 ghost use Rattle.log_image.specs.LogItems.{AreItemsOfLog};
 ghost use Rattle.item_inode.specs.Inode.{inode_view};
 ghost use Rattle.item_edit.specs.ItemEdit.{HasInode};
-ghost use Rattle.log_items.specs.Inode.{HasItsKind, first_at, inode_count, items_at, last_at, own_count, value_to_log, with_attributes, with_inode, with_items_at, with_own_items, with_target};
+ghost use Rattle.log_items.specs.Inode.{HasItsKind, first_at, inode_count, items_at, last_at, own_count, value_to_log, with_attributes, with_inode, with_items_at, with_own_items, with_target, with_whole};
 ghost use Rattle.log_items.specs.Names.{names_to_log, renamed};
 ghost use Rattle.log_items.specs.Writing.{IsWriting, MayWrite};
 
@@ -131,6 +131,38 @@ fn write_own_items_unless_whole(
         let item = item_to_log(&inode_at(table, &sub.tree, ino), whole);
         write_own_items(table, log, &sub.tree, ino, whole, &item);
     }
+}
+
+/// Makes an inode whole in a log, whose names stay: its item with a generation, its attributes, and of a symlink the target;
+/// of a file the blocks and the holes stay that the log has, none where it hasn't the inode whole (LOG_INODE_ALL of btrfs_log_inode
+/// in fs/btrfs/tree-log.c, own). The log's tree and the subvolume's share no block, and the subvolume's, which has the inode,
+/// stays. The log's has room for so many items as are written at most.
+pub fn write_whole(table: &mut BlockTable, log: &mut Tree, sub: &SubState, ino: Ino)
+    requires tree { IsTree table.old log.old }
+    requires current { AreCurrent table.old (tree_reach table.old log.old) }
+    requires keys { HaveKeys (tree_items table.old log.old) }
+    requires from { IsTree table.old sub.now.tree }
+    requires from_keys { HaveKeys (tree_items table.old sub.now.tree) }
+    requires apart { AreApart (tree_reach table.old log.old) (tree_reach table.old sub.now.tree) }
+    requires given { (value : InodeValue) × HasInode (tree_items table.old sub.now.tree) ino.0 value
+        × HasRoomFor table.old log.old (own_count ino.0 true value.mode (tree_items table.old sub.now.tree)) }
+    ensures tree { IsTree table.new log.new }
+    ensures log { (blocks data_there : Data) (flat : FlatLog) (current : Subvolume) (inode : InodeRecord)
+        → AreItemsOfLog (tree_items table.old log.old) blocks flat → AreItemsOf (tree_items table.old sub.now.tree) data_there current
+        → get current.inodes ino.0 ≡ Some inode → HasItsKind flat ino.0 inode
+        → AreItemsOfLog (tree_items table.new log.new) blocks (with_whole ino.0 inode flat) }
+    ensures keys { HaveKeys (tree_items table.new log.new) }
+    ensures owner { log.new.owner ≡ log.old.owner }
+    ensures edit { IsEdit table.old table.new (tree_reach table.old log.old) (tree_reach table.new log.new) }
+    ensures current { AreCurrent table.new (tree_reach table.new log.new) }
+    ensures from { AreAlike table.old table.new (tree_reach table.old sub.now.tree) }
+    ensures sealed { (fsid : List ℕ) (was : ℕ) → IsSealedTree table.old log.old fsid was → (now : ℕ) × IsSealedTree table.new log.new fsid now }
+    ensures blocks { room_of_tree table.new log.new ≡ room_of_tree table.old log.old }
+    ensures buffers { spare_of_tree table.new log.new ≡ spare_of_tree table.old log.old }
+    ensures room { (value : InodeValue) (more : ℕ) → HasInode (tree_items table.old sub.now.tree) ino.0 value
+        → HasRoomFor table.old log.old (more + own_count ino.0 true value.mode (tree_items table.old sub.now.tree)) → HasRoomFor table.new log.new more }
+{
+    write_own_items_unless_whole(table, log, sub, ino, true);
 }
 
 /// Writes an inode into a log, whole or as one that only exists, with the names that its subvolume has of it (inode and
