@@ -1,17 +1,16 @@
 -- An inode that is written into a log is there as it should be.
-use Rattle.std.proofs.Common.{◌≡◌, ◌≢◌, ◌∙◌, ℕ, Bool, true, false, cond, Option, Some, None, refl, sym, ap, subst}
+use Rattle.std.proofs.Common.{◌≡◌, ◌≢◌, ◌∙◌, ℕ, Bool, true, false, cond, Option, Some, refl, sym, ap}
 use Rattle.std.specs.FinMap.{get, insert}
-use Rattle.std.specs.Option.{is_some, option_map}
-use Rattle.flat_model.specs.Records.{DirInode, FileInode, FileRecord, InodeRecord, LinkInode, at_creation, kind_of}
+use Rattle.std.specs.Option.{option_map}
+use Rattle.flat_model.specs.Records.{DirInode, FileInode, InodeRecord, LinkInode, at_creation, kind_of}
 use Rattle.flat_model.specs.declared.view.Kind.TheVariants.{File}
 use Rattle.flat_model.specs.Volume.{Subvolume}
 use Rattle.flat_model.proofs.Maps.{get_insert_other, get_insert_same, get_remove_other, get_remove_same}
 use Rattle.logged_volume.specs.FlatLog.{FileChanges, FlatLog, WholeFile, is_whole}
-use Rattle.logged_volume.specs.Replay.{blocks_of}
-use Rattle.logged_volume.specs.Written.{HasTarget, IsChangesOf, IsWholeOf}
-use Rattle.log_items.specs.Inode.{whole_with_had, with_existing, with_inode, with_whole}
+use Rattle.logged_volume.specs.Written.{IsWholeOf}
+use Rattle.log_items.specs.Inode.{whole_with_had, with_inode}
 use Rattle.log_items.specs.Names.{renamed}
-use Rattle.log_items.specs.Written.{FileIsWritten, InodeIsWritten, IsInodeWritten, with_changes}
+use Rattle.log_items.specs.Written.{FileIsWritten, InodeIsWritten, IsInodeWritten}
 
 -- what isn't a file is whole as it is
 whole_as_it_is : (was : Option InodeRecord) (had : Option Rattle.logged_volume.specs.FlatLog.WholeInode) (inode : InodeRecord) → kind_of inode ≢ File → IsWholeOf was inode (whole_with_had had inode)

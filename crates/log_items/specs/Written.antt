@@ -1,5 +1,5 @@
 -- What a log has of an inode once it is written into it.
-use Rattle.std.specs.Prelude.{◌≡◌, ◌≢◌, ℕ, Bool, true, false, cond, is_some, Option, Some, None, option_map}
+use Rattle.std.specs.Prelude.{◌≡◌, ◌≢◌, ℕ, Bool, true, false, cond, is_some, Some, None, option_map}
 use Rattle.std.specs.FinMap.{get, insert}
 use Rattle.flat_model.specs.Records.{FileRecord, InodeRecord, FileInode, at_creation, kind_of}
 use Rattle.flat_model.specs.declared.view.Kind.TheVariants.{File}
