@@ -15,7 +15,8 @@ use Rattle.log_items.specs.Names.{renamed}
 pub record IsInodeWritten (committed current : Subvolume) (ino : ℕ) (whole : Bool) (log after : FlatLog) : Type 0 where
   pub target : whole ≡ true → HasTarget committed current ino after
   pub stays : whole ≡ false → get after.whole ino ≡ get log.whole ino
-  pub existing : get after.existing ino ≡ cond whole None (cond (is_some (get log.whole ino)) (get log.existing ino) (option_map at_creation (get current.inodes ino)))
+  pub existing : get after.existing ino
+      ≡ cond whole None (cond (is_some (get log.whole ino)) (get log.existing ino) (option_map at_creation (get current.inodes ino)))
   pub others_whole : (other : ℕ) → other ≢ ino → get after.whole other ≡ get log.whole other
   pub others_existing : (other : ℕ) → other ≢ ino → get after.existing other ≡ get log.existing other
   pub names : after.names ≡ (renamed ino current log).names

@@ -16,7 +16,8 @@ ghost use Rattle.logged_volume.specs.FlatLog.{FlatLog};
 ghost use Rattle.log_image.specs.LogItems.{AreItemsOfLog};
 ghost use Rattle.item_inode.specs.Inode.{inode_view};
 ghost use Rattle.item_edit.specs.ItemEdit.{HasInode};
-ghost use Rattle.log_items.specs.Inode.{HasItsKind, first_at, inode_count, items_at, last_at, own_count, value_to_log, with_attributes, with_inode, with_items_at, with_own_items, with_target, with_whole};
+ghost use Rattle.log_items.specs.Inode.{HasItsKind, inode_count, items_at, own_count, value_to_log};
+ghost use Rattle.log_items.specs.Inode.{with_attributes, with_inode, with_items_at, with_own_items, with_target, with_whole};
 ghost use Rattle.log_items.specs.Names.{names_to_log, renamed};
 ghost use Rattle.log_items.specs.Writing.{IsWriting, MayWrite};
 
@@ -87,7 +88,8 @@ fn write_own_items(
 )
     requires may { MayWrite table.old log.old from.now }
     requires room { HasRoomFor table.old log.old (own_count ino.0 whole item.now.mode (tree_items table.old from.now)) }
-    ensures items { tree_items table.new log.new ≡ with_own_items ino.0 whole (inode_view item.now) (tree_items table.old from.now) (tree_items table.old log.old) }
+    ensures items { tree_items table.new log.new
+        ≡ with_own_items ino.0 whole (inode_view item.now) (tree_items table.old from.now) (tree_items table.old log.old) }
     ensures spelled { ((item.now.mode ≡ file_mode) ⊎ (item.now.mode ≡ dir_mode) ⊎ (item.now.mode ≡ link_mode))
         → IsInode (inode_bytes (inode_view item.now)) (inode_view item.now) }
     ensures writing { IsWriting table.old log.old from.now table.new log.new }
